@@ -28,6 +28,11 @@ HEAP = $(dir $(shell rt doc))c/liblibc_c.a
 LIBDIR = $(PREFIX)/lib
 PKG_CONFIG_FILE = sed 's|@PREFIX@|$(PREFIX)|; s|@LIBDIR@|$(LIBDIR)|; s|@VERSION@|'`cat VERSION`'|' library/rtfilter.pc.in
 
+# The extension of the Python package, with the library in it. It wants python3-dev and python3-setuptools of Debian.
+EXTENSION := python/rtfilter/_engine.abi3.so
+BUILD_EXTENSION = cd python && RTFILTER_ARCHIVE=$(abspath $(LIBRTFILTER)) RTFILTER_INCLUDE=$(abspath include) \
+  /usr/bin/python3 -B setup.py --quiet build_ext --inplace --build-temp $(abspath $(OUT))/python/temporary --build-lib $(abspath $(OUT))/python/lib
+
 # What a service and a pool load before the C library, where there is a C compiler.
 PREFORK := $(if $(shell command -v $(CC)),build/rtfilter-prefork.so)
 
@@ -66,6 +71,12 @@ $(OUT)/librtfilter.so.0: $(LIBRTFILTER) library/rtfilter.map
 $(OUT)/librtfilter.so: $(OUT)/librtfilter.so.0
 	@ln -sf librtfilter.so.0 $@
 
+# The Python package, to be used from this folder: PYTHONPATH=python.
+python: $(EXTENSION)
+
+$(EXTENSION): python/engine/_engine.c python/setup.py $(LIBRTFILTER)
+	@$(BUILD_EXTENSION)
+
 # In one step, since some may build it at once.
 build/rtfilter-prefork.so: service/prefork.c
 	@mkdir -p build
@@ -100,9 +111,9 @@ check: build/$(CRATE).proved $(patsubst %,build/%.passed,$(filter $(CRATE)_tests
 test:
 	@tests/run
 
-# The clients, the recipes and the package, with the built program. NEED=all: what can't be tried here has failed.
+# The Python package, the service, the examples, the recipes and the packages, with the built program. NEED=all: what can't be tried here has failed.
 test-users: all library
-	@tests/users.py build/rtfilter --archive $(ARCHIVE) $(if $(filter all,$(NEED)),--need-all)
+	@tests/pytests.py build/rtfilter --archive $(ARCHIVE) $(if $(filter all,$(NEED)),--need-all)
 
 # The Debian packages that the tests want, by apt-get, as root or with sudo.
 test-packages:
@@ -116,13 +127,14 @@ test-full: build/rtfilter
 bench: all library
 	@bench/bench.py build/rtfilter --library $(LIBRTFILTER)
 
-# The Debian packages, in build/: the program, the library, the client, the service. They want debhelper, dpkg-dev and gcc.
+# The Debian packages, in build/: the program, the library, the Python package, the service. They want debhelper, dh-python,
+# dpkg-dev, gcc, python3-dev and python3-setuptools.
 deb: $(PROGRAM) $(LIBRTFILTER)
 	@packaging/make_packages.py $(PROGRAM) $(LIBRTFILTER) build
 
-# The Python wheel with the program in it, in build/. It wants a C compiler.
-wheel: $(PROGRAM) build/rtfilter-prefork.so
-	@packaging/make_wheel.py $(PROGRAM) build/rtfilter-prefork.so build
+# The Python wheel, with the program in it, in build/. It wants a C compiler, python3-dev and python3-setuptools of Debian.
+wheel: $(PROGRAM) build/rtfilter-prefork.so $(LIBRTFILTER)
+	@packaging/make_wheel.py $(PROGRAM) build/rtfilter-prefork.so $(LIBRTFILTER) build
 
 # The reference of the Python package, in build/reference. It wants python3-sphinx of Debian.
 reference:
@@ -131,7 +143,7 @@ reference:
 SHARE := $(DESTDIR)$(PREFIX)/share
 SERVING := $(DESTDIR)$(PREFIX)/lib/rtfilter
 UNITS := $(DESTDIR)$(PREFIX)/lib/systemd/system
-SERVICE := $(addprefix service/,serve.py service.py listening.py health.py) clients/python/rtfilter/prefork.py
+SERVICE := $(addprefix service/,serve.py service.py listening.py health.py prefork.py)
 COMPLETIONS := $(SHARE)/bash-completion/completions
 
 # What makes the units of many tables of those of one: an instance has the name of its table.
@@ -179,6 +191,6 @@ uninstall:
 clean:
 	rm -rf build crates/*/out
 
-.PHONY: all library example check test test-users test-packages test-full bench deb wheel reference install install-library
+.PHONY: all library python example check test test-users test-packages test-full bench deb wheel reference install install-library
 .PHONY: uninstall clean
 .DEFAULT_GOAL := all

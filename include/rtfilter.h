@@ -12,8 +12,9 @@
  * Threads
  *   A session may be in one call at a time. Different sessions may be in calls at the same time, in different threads, also
  *   where they share a table. To hand a session to another thread, order the two threads by a lock, a start or a join. No
- *   function may be called from a signal handler, or in the child of a fork of a process with several threads. A call
- *   needs 64 KiB of stack.
+ *   function may be called from a signal handler. In the child of a fork of a process with several threads, sessions that were
+ *   in no call may be used if the C library is glibc, whose malloc such a child may call; otherwise no function may be called
+ *   there. A call needs 64 KiB of stack.
  *
  * Pointers
  *   A pointer must be aligned, and valid for the number of items that is given with it; it may be null where that number

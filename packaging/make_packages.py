@@ -6,7 +6,8 @@ usage: packaging/make_packages.py PROGRAM LIBRARY FOLDER
 LIBRARY is librtfilter.a, of which the shared one is made. Writes the packages to the folder and prints their names: `rtfilter`
 with the program and the library of the service, `librtfilter0` and `librtfilter-dev`, the debug symbols of both,
 `python3-rtfilter` and `rtfilter-service`. The version is that of VERSION, the changes and their dates are those
-of CHANGELOG.md. The same files make the same bytes. It wants debhelper, dpkg-dev and gcc of Debian 12.
+of CHANGELOG.md. The same files make the same bytes. It wants debhelper, dh-python, dpkg-dev, gcc, python3-dev
+and python3-setuptools of Debian 12.
 """
 
 import argparse
@@ -32,9 +33,9 @@ PAGES = sorted(f"docs/{page.name}" for page in (ROOT / "docs").glob("*.md") if p
 # What packages are made of, beside the program.
 SOURCES = [
     "Makefile", "VERSION", "README.md", "CONTRIBUTING.md", "crates.txt", *PAGES, "include", "library", "bindings", "docs/pictures", "docs/rtfilter.1",
-    "docs/rtfilter-serve.1", "packaging/rtfilter.bash", "packaging/rtfilter-serve.bash", "service/README.md", "service/prefork.c", "service/serve.py", "service/service.py", "service/listening.py", "service/health.py",
-    "service/rtfilter.service", "service/rtfilter.socket", "clients/python/rtfilter",
-    *(f"examples/{name}" for name in ("cluster", "common", "data", "geofence", "languages", "library", "roads", "tiles")),
+    "docs/rtfilter-serve.1", "packaging/rtfilter.bash", "packaging/rtfilter-serve.bash", "service/README.md", "service/prefork.c", "service/serve.py", "service/service.py", "service/listening.py", "service/health.py", "service/prefork.py",
+    "service/rtfilter.service", "service/rtfilter.socket", "python/rtfilter", "python/engine", "python/setup.py", "python/pyproject.toml", "python/README.md",
+    *(f"examples/{name}" for name in ("common", "data", "geofence", "languages", "library", "roads", "tiles")),
 ]
 RELEASE = re.compile(r"^## (\S+), (\d{4}-\d\d-\d\d)\n\n((?:- .*\n|  .*\n)+)", re.MULTILINE)
 
@@ -63,7 +64,7 @@ def place(source: Path, target: Path) -> None:
     """Copies a file or a folder, with modes that don't depend on who checked it out."""
     target.parent.mkdir(parents=True, exist_ok=True)
     if source.is_dir():
-        shutil.copytree(source, target, ignore=shutil.ignore_patterns("__pycache__", "tests", "target", "Cargo.lock"))
+        shutil.copytree(source, target, ignore=shutil.ignore_patterns("__pycache__", "tests", "target", "Cargo.lock", "*.so", "*.egg-info"))
     else:
         shutil.copy(source, target)
     for path in (target, *target.rglob("*")):

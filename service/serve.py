@@ -16,17 +16,13 @@ import stat
 import sys
 from collections.abc import Callable, Sequence
 from functools import partial
-from pathlib import Path
 from typing import Any
-
-# Where the service is installed, prefork.py stands beside this; in a checkout it is the client's.
-sys.path.append(str(Path(__file__).resolve().parent.parent / "clients/python/rtfilter"))
 
 import prefork
 from listening import given_listeners, name_of, tcp_listener, unix_listener
 from service import NO_SERVICE, SIGNALS, Service, log
 
-VERSION = "0.2.0"
+VERSION = "0.3.0"
 LOOPBACK = "127.0.0.1"
 MOST_CONNECTIONS = 1 << 20  # as prefork.c has it
 LONGEST = 1e8  # seconds, three years

@@ -39,10 +39,17 @@ __attribute__((constructor)) static void begin(void)
     refused = getenv("REFUSE") ? getenv("REFUSE") : "";
 }
 
+/* Beside these, a program that runs may set this to n: the nth call from then on fails, and this is 0 again. */
+long refuse_soon;
+
 static int is_refused(const char *call)
 {
     if (strcmp(call, refused) != 0)
         return 0;
+    if (refuse_soon > 0 && --refuse_soon == 0) {
+        errno = error;
+        return 1;
+    }
     calls++;
     if (calls < first || calls - first >= many)
         return 0;

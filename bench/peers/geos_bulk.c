@@ -1,4 +1,4 @@
-/* Windows over GEOS's STR-packed tree, by its C API, for bench/bulk.py.
+/* Windows over GEOS's STR-packed tree, by its C API, for bench/python.py.
  *
  *     geos_bulk BOXES WINDOWS
  *

@@ -4,7 +4,7 @@ import sys
 import tomllib
 from pathlib import Path
 
-PACKAGE = Path(__file__).resolve().parents[2] / "clients/python"
+PACKAGE = Path(__file__).resolve().parents[2] / "python"
 sys.path.insert(0, str(PACKAGE))
 
 project = "rtfilter"
@@ -17,4 +17,4 @@ html_copy_source = False
 html_show_copyright = False
 autodoc_member_order = "bysource"
 autodoc_typehints = "signature"
-autodoc_default_options = {"members": True, "inherited-members": "Owned, Sequence, BaseException", "show-inheritance": True}
+autodoc_default_options = {"members": True, "show-inheritance": True}

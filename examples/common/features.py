@@ -6,7 +6,7 @@ import math
 from collections.abc import Iterator
 from typing import Any, Union
 
-from rtfilter import FeatureError
+from geojson import FeatureError
 
 Feature = dict[str, Any]
 

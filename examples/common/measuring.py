@@ -30,5 +30,4 @@ def parser_of(description: str) -> argparse.ArgumentParser:
     """What reads the options that each measurement has."""
     parser = argparse.ArgumentParser(description=description)
     parser.add_argument("--runs", type=int, default=5, help="of which the fastest counts: others may use the machine")
-    parser.add_argument("--program", default="rtfilter")
     return parser

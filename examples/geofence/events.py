@@ -44,13 +44,7 @@ class Fence:
         return self.told_of(first + answered, lines[answered:])
 
     def _exchange_zones(self) -> None:
-        fresh = self._exchange.taken()
-        if fresh is not None:
-            self._fences.close()
-            self._fences = fresh
-
-    def close(self) -> None:
-        self._fences.close()
+        self._fences = self._exchange.taken() or self._fences
 
 
 def event_lines(position: Position, before: Held, held: Held) -> Iterator[str]:

@@ -41,9 +41,7 @@ class Exchange:
                 self._tell(f"{error}; the zones are those of before")
                 continue
             with self._lock:
-                passed_over, self._fresh = self._fresh, fresh
-            if passed_over is not None:
-                passed_over.close()
+                self._fresh = fresh
             self._tell(f"zones: {len(fresh.zones)}")
 
     def _has_next(self) -> bool:

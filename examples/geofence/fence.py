@@ -1,8 +1,8 @@
-#!/usr/bin/env python3
+#!/usr/bin/python3
 """Tells which devices enter and leave the zones of a file, as their positions come.
 
 usage: fence.py [--unix PATH] [--layer PROPERTY] [--on LAYERS] [--devices N] [--resume EVENTS [--skip-answered]]
-                [--mode MODE] [--connections N] [--patience SECONDS] [--timeout SECONDS] [--program PROGRAM] ZONES
+                [--mode MODE] [--connections N] [--patience SECONDS] ZONES
 
 Positions are lines DEVICE,LONGITUDE,LATITUDE,TIME on standard input, or from all who connect to PATH; what is told of
 them are lines of JSON. README.md says which.
@@ -16,7 +16,7 @@ from functools import partial
 from pathlib import Path
 
 HERE = Path(__file__).resolve().parent
-sys.path[:0] = [str(HERE.parent.parent / folder) for folder in ("clients/python", "service", "examples/common")]
+sys.path[:0] = [str(HERE.parent.parent / folder) for folder in ("python", "service", "examples/common")]
 
 from connections import Connections
 from devices import Devices, Refused
@@ -27,8 +27,6 @@ from fragments import cut_fragment
 from listening import unix_listener
 from signals import Signals
 from stream import Stream, standard_ends
-
-from rtfilter import RtfilterError
 
 OTHER_FILES = 64  # descriptors that are left for what is no connection
 
@@ -45,8 +43,6 @@ def arguments() -> argparse.Namespace:
     parser.add_argument("--devices", type=int, default=1_000_000, metavar="N", help="that are known at most (1000000)")
     parser.add_argument("--resume", metavar="EVENTS", help="goes on from what was told before, a file of events")
     parser.add_argument("--skip-answered", action="store_true", help="the input is the one before, from its first line")
-    parser.add_argument("--timeout", type=float, default=30.0, metavar="SECONDS", help="for the program (30)")
-    parser.add_argument("--program", default="rtfilter", help="rtfilter, by its name or path")
     args = parser.parse_args()
     if min(args.devices, args.connections) < 1:
         parser.error("one device and one connection or more are known")
@@ -88,7 +84,7 @@ def serve(args: argparse.Namespace, fence: Fence, next_line: int, signals: Signa
 
 def main() -> int:
     args = arguments()
-    load = partial(Fences, args.zones, args.layer, args.on, args.program, args.timeout)
+    load = partial(Fences, args.zones, args.layer, args.on)
     try:
         devices = Devices(args.devices)
         next_line = 1 if args.resume is None else resumed(args.resume, devices)
@@ -97,9 +93,8 @@ def main() -> int:
         fences = load()
         devices.arrange(fences.zones)
         tell(f"zones: {len(fences.zones)}")
-        with contextlib.closing(Fence(fences, devices, exchange)) as fence:
-            serve(args, fence, next_line, signals.hold())
-    except (RtfilterError, Refused, OSError, ValueError) as error:
+        serve(args, Fence(fences, devices, exchange), next_line, signals.hold())
+    except (Refused, OSError, ValueError) as error:
         tell(str(error))
         return 1
     return 0

@@ -1,7 +1,7 @@
 #!/usr/bin/env python3
 """Measures a fence: processor time for a position, of all its processes together, and memory for a device.
 
-usage: measure.py [--positions N] [--zones N] [--corners N] [--devices N] [--program PROGRAM]
+usage: measure.py [--positions N] [--zones N] [--corners N] [--devices N]
 
 Devices drive about among zones of random form, each so wide that a position lies in one box round a zone on average.
 """
@@ -73,7 +73,7 @@ def main() -> None:
         with open(lines, "wb") as file:
             file.writelines(positions(chance, args.devices, args.positions))
         none.touch()
-        words = [sys.executable, str(HERE / "fence.py"), "--program", args.program, str(zones)]
+        words = [sys.executable, str(HERE / "fence.py"), str(zones)]
         load = min(cost_of(words, none).seconds for _ in range(args.runs))
         runs = [cost_of(words, lines) for _ in range(args.runs)]
     seconds, memory, told = min(runs)

@@ -6,8 +6,7 @@ from math import inf
 from typing import NamedTuple
 
 from cutting import LONGEST_LINE, NAME, NUMBER, fault_of, is_skipped
-
-from rtfilter.geojson import whole_by
+from geojson import whole_by
 
 SCALE = 1e7  # a degree in whole units, each about a centimetre
 SURE = 0.499  # a product this near to a whole number is rounded to it, whatever the product was rounded by

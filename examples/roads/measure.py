@@ -1,7 +1,7 @@
 #!/usr/bin/env python3
 """Measures snapping: processor time for a position, of all its processes together.
 
-usage: measure.py [--positions N] [--roads N] [--corners N] [--nearest K] [--runs N] [--program PROGRAM]
+usage: measure.py [--positions N] [--roads N] [--corners N] [--nearest K] [--runs N]
 
 Roads wind about a square of 60 km, with a corner each 100 metres or so; positions are anywhere in it.
 """
@@ -54,7 +54,7 @@ def main() -> None:
         lines.write_text("".join(fields))
         records.write_text("id,longitude,latitude\n" + "".join(fields))
         none.touch()
-        words = [sys.executable, str(HERE / "snap.py"), "--program", args.program, "--nearest", str(args.nearest)]
+        words = [sys.executable, str(HERE / "snap.py"), "--nearest", str(args.nearest)]
         load = min(cost_of([*words, str(roads)], none).seconds for _ in range(args.runs))
         of_lines = min(cost_of([*words, str(roads)], lines).seconds for _ in range(args.runs))
         of_records = min(cost_of([*words, str(roads), str(records)], none).seconds for _ in range(args.runs))

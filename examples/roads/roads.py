@@ -7,15 +7,13 @@ from itertools import pairwise
 from typing import Any, Union
 
 from features import Feature, features_of, id_of, members, name_of, named
+from geojson import FeatureError, line_of, parts_of, whole_by
+from lines import Pieces
+from plane import Piece, Place, sides_of
 from planes import Plane, Point
-from restarts import Restarted
 from rows import row_of
 
-from rtfilter import FeatureError, Row
-from rtfilter.closing import Closing
-from rtfilter.geojson import line_of, parts_of, whole_by
-from rtfilter.lines import Pieces
-from rtfilter.plane import Piece, Place, sides_of
+from rtfilter import Rtfilter
 
 
 @dataclass(frozen=True)
@@ -40,20 +38,20 @@ Found = tuple[Road, Piece]
 """A road near a place, and the piece of it that is nearest, of pieces that are as near the first."""
 
 
-class Roads(Closing):
+class Roads:
     """The roads of a file of GeoJSON: features that are each a LineString or a MultiLineString.
 
-    Raises `ValueError` for a file that isn't taken, or `OSError`, and what `Rtfilter` does.
+    Raises `ValueError` for a file that isn't taken, or `OSError`.
     """
 
-    def __init__(self, file: str, plane: Plane, program: str, timeout: float | None) -> None:
+    def __init__(self, file: str, plane: Plane) -> None:
         self._roads: list[Road] = []
         self._road_of: list[int] = []
         self._pieces: list[Piece] = []  # the id of a piece's box is its place here
         with named(file):
             self._read(features_of(file), plane)
-        self._boxes = Restarted(self._rows, program, timeout)
-        self._search = Pieces(self._boxes, self._pieces, self._road_of)
+        boxes = Rtfilter((at, *sides_of(piece)) for at, piece in enumerate(self._pieces))
+        self._search = Pieces(boxes, self._pieces, self._road_of)
 
     def _read(self, features: list[Feature], plane: Plane) -> None:
         """Takes roads from features."""
@@ -63,9 +61,6 @@ class Roads(Closing):
             self._pieces += pairwise(path)
             self._road_of += [number] * (len(path) - 1)
 
-    def _rows(self) -> Iterator[Row]:
-        return ((at, *sides_of(piece)) for at, piece in enumerate(self._pieces))
-
     def __len__(self) -> int:
         return len(self._roads)
 
@@ -74,9 +69,6 @@ class Roads(Closing):
         Where there are fewer all come."""
         for feet in self._search.nearest_each(k, places):
             yield [(self._roads[road], self._pieces[piece]) for _, road, piece, _, _ in feet]
-
-    def close(self) -> None:
-        self._boxes.close()
 
 
 def point_of(piece: Piece, x: int, y: int) -> Point:

@@ -1,7 +1,7 @@
 #!/usr/bin/env python3
 """Tells the roads nearest to positions, the point on each, and how far it is.
 
-usage: snap.py [--nearest K] [--scale UNITS] [--columns X,Y] [--timeout SECONDS] [--program PROGRAM] ROADS [POSITIONS]
+usage: snap.py [--nearest K] [--scale UNITS] [--columns X,Y] ROADS [POSITIONS]
 
 Without POSITIONS, lines NAME,LONGITUDE,LATITUDE are read from standard input and answered by lines of JSON. POSITIONS is
 a CSV file with a header, whose records are written again with what is told of them. README.md says more.
@@ -13,7 +13,7 @@ import sys
 from pathlib import Path
 
 HERE = Path(__file__).resolve().parent
-sys.path[:0] = [str(HERE.parent.parent / folder) for folder in ("clients/python", "examples/common")]
+sys.path[:0] = [str(HERE.parent.parent / folder) for folder in ("python", "examples/common")]
 
 from features import named
 from planes import Plane, Scaled, WebMercator
@@ -22,8 +22,6 @@ from roads import Roads
 from signals import Signals
 from snapping import Snapping
 from stream import Stream, standard_ends
-
-from rtfilter import RtfilterError
 
 INTERRUPTED = 130  # the status, as shells have it
 
@@ -35,8 +33,6 @@ def arguments() -> argparse.Namespace:
     parser.add_argument("--nearest", type=int, default=1, metavar="K", help="how many roads (1)")
     parser.add_argument("--scale", type=float, metavar="UNITS", help="whole units of a coordinate, which is of a plane")
     parser.add_argument("--columns", metavar="X,Y", help="of POSITIONS (longitude,latitude, or x,y with --scale)")
-    parser.add_argument("--timeout", type=float, default=30.0, metavar="SECONDS", help="for the program (30)")
-    parser.add_argument("--program", default="rtfilter", help="rtfilter, by its name or path")
     args = parser.parse_args()
     if args.nearest < 1:
         parser.error("one road or more is told")
@@ -73,13 +69,13 @@ def main() -> int:
     args = arguments()
     plane: Plane = WebMercator() if args.scale is None else Scaled(args.scale)
     try:
-        with Roads(args.roads, plane, args.program, args.timeout) as roads:
-            tell(f"roads: {len(roads)}")
-            snapping = Snapping(roads, plane, args.nearest)
-            if args.positions is not None:
-                return int(not write_records(args, snapping))
-            Stream(snapping.told_of, Signals().hold(), *standard_ends()).serve()
-    except (RtfilterError, OSError, ValueError) as error:
+        roads = Roads(args.roads, plane)
+        tell(f"roads: {len(roads)}")
+        snapping = Snapping(roads, plane, args.nearest)
+        if args.positions is not None:
+            return int(not write_records(args, snapping))
+        Stream(snapping.told_of, Signals().hold(), *standard_ends()).serve()
+    except (OSError, ValueError) as error:
         tell(str(error))
         return 1
     except KeyboardInterrupt:

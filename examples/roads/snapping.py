@@ -5,10 +5,9 @@ import re
 from collections.abc import Iterator, Sequence
 
 from cutting import LONGEST_LINE, NAME, NUMBER, fault_of, is_skipped
+from plane import Place
 from planes import Near, Plane
 from roads import Road, Roads, point_of
-
-from rtfilter.plane import Place
 
 LINE = re.compile(rb",".join([NAME, NUMBER, NUMBER]) + rb"\r?")
 """A name, in quotes or not, and two coordinates."""

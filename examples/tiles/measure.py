@@ -1,7 +1,7 @@
 #!/usr/bin/env python3
 """Measures the server of tiles: processor time for a tile, of all its processes together, and tiles a second.
 
-usage: measure.py [--boxes N] [--levels Z,Z] [--tiles N] [--processes N] [--clients N] [--gzip] [--program PROGRAM]
+usage: measure.py [--boxes N] [--levels Z,Z] [--tiles N] [--processes N] [--clients N] [--gzip]
 
 Tiles are those of boxes at random, over a map that make_map.py makes. Clients are processes beside the server, each with
 a connection: their processor time is told by itself, and takes that of the same cores.
@@ -65,7 +65,6 @@ def main() -> None:
     parser.add_argument("--processes", type=int, default=4)
     parser.add_argument("--clients", type=int, default=4)
     parser.add_argument("--gzip", action="store_true")
-    parser.add_argument("--program", default="rtfilter")
     args = parser.parse_args()
     with tempfile.TemporaryDirectory() as name:
         room = Path(name)
@@ -73,7 +72,7 @@ def main() -> None:
         table = room / "boxes.csv"
         tiles = some_tiles(table, [*map(int, args.levels.split(","))], args.tiles)
         words = [sys.executable, str(HERE / "serve.py"), "--port", "0", "--processes", str(args.processes)]
-        words += ["--program", args.program, "--names", str(room / "names.csv"), str(table)]
+        words += ["--names", str(room / "names.csv"), str(table)]
         with subprocess.Popen(words, stdout=subprocess.PIPE, text=True) as server:
             assert server.stdout is not None
             port = int(server.stdout.readline().strip().rstrip("/").rpartition(":")[2])

@@ -2,8 +2,7 @@
 """Serves a map of a table of boxes: a page, vector tiles at /z/x/y.pbf, and what tells others of them.
 
 usage: serve.py [--header] [--names FILE] [--layers FILE] [--listen ADDRESS] [--port PORT] [--host NAME] [--url URL]
-                [--origin ORIGIN] [--max-age SECONDS] [--processes N] [--idle SECONDS] [--timeout SECONDS]
-                [--log FILE] [--program PROGRAM] TABLE
+                [--origin ORIGIN] [--max-age SECONDS] [--processes N] [--idle SECONDS] [--log FILE] TABLE
 
 Once the table is loaded, the page's address is printed. SIGHUP has it loaded anew. README.md says what is served, and what is
 refused.
@@ -33,7 +32,7 @@ from typing import Any
 from urllib.parse import parse_qsl, urlsplit
 
 HERE = Path(__file__).resolve().parent
-sys.path[:0] = [str(HERE.parent.parent / folder) for folder in ("clients/python", "service")]
+sys.path[:0] = [str(HERE.parent.parent / folder) for folder in ("python", "service")]
 
 from addresses import style, tile_json
 from counts import Counts
@@ -44,9 +43,7 @@ from table import Places, Table, names_of
 from views import Views
 from workers import Ends, run_together
 
-from rtfilter import Boxes, Disconnected, Ended, Pool, QueryError, Rtfilter, TimedOut
-from rtfilter.client import program_of
-from rtfilter.prefork import library_of
+from rtfilter import QueryError, Rtfilter
 
 LONGEST_TARGET = 4096  # bytes of a request's address
 MOST_CONNECTIONS = 64  # of a process
@@ -101,7 +98,7 @@ class Settings:
 
 @dataclass(frozen=True)
 class Served:
-    """What a request is answered from, whatever is loaded meanwhile. Where nobody has it any more its program ends."""
+    """What a request is answered from, whatever is loaded meanwhile."""
 
     views: Views
     settings: Settings
@@ -121,7 +118,6 @@ class Server(ThreadingHTTPServer):
         self.socket = listener
         self.served = served
         self.counts = counts
-        self.failure: Exception | None = None
         self._is_over = False
         self._ends = ends
 
@@ -172,11 +168,6 @@ class Server(ThreadingHTTPServer):
     def shutdown(self) -> None:
         self._is_over = True
         super().shutdown()
-
-    def fail(self, failure: Exception) -> None:
-        """Ends the server: the program that it asks is gone."""
-        self.failure = failure
-        threading.Thread(target=self.shutdown).start()
 
 
 def hosts_of(names: list[str], port: int) -> set[str]:
@@ -256,11 +247,8 @@ class Handler(BaseHTTPRequestHandler):
             self.reply(refused.status, "text/plain", refused.text.encode())
         except QueryError as fault:
             self.reply(HTTPStatus.BAD_REQUEST, "text/plain", f"{fault.code} {fault.text}".encode())
-        except (Disconnected, TimedOut) as failure:  # which its own process alone has met
-            self.reply(HTTPStatus.SERVICE_UNAVAILABLE, "text/plain", str(failure).encode())
-        except Ended as failure:
-            self.refuse(Refused(HTTPStatus.SERVICE_UNAVAILABLE, "the program has ended"))
-            self.server.fail(failure)
+        except MemoryError:
+            self.reply(HTTPStatus.SERVICE_UNAVAILABLE, "text/plain", b"out of memory")
 
     do_HEAD = do_GET
 
@@ -390,7 +378,7 @@ def json_of(value: dict[str, Any]) -> bytes:
 
 
 def health(views: Views, query: str) -> dict[str, Any]:
-    """Whether the program answers: what it is asked costs nothing."""
+    """Whether the table answers: what it is asked costs nothing."""
     parameters(query)
     return {"boxes": views.size()}
 
@@ -456,9 +444,7 @@ def arguments() -> argparse.Namespace:
     parser.add_argument("--max-age", type=int, default=60, metavar="SECONDS", help="for which a tile is kept (60)")
     parser.add_argument("--processes", type=int, default=1, metavar="N", help="that serve side by side (1)")
     parser.add_argument("--idle", type=float, default=10.0, metavar="SECONDS", help="for a silent connection (10)")
-    parser.add_argument("--timeout", type=float, default=10.0, metavar="SECONDS", help="for a question (10)")
     parser.add_argument("--log", metavar="FILE", help="of accesses; - is standard error (none)")
-    parser.add_argument("--program", default="rtfilter", help="rtfilter, by its name or path")
     args = parser.parse_args()
     if args.processes < 1 or args.max_age < 0:
         parser.error("one process or more serves, and an age is 0 or more")
@@ -486,42 +472,26 @@ def tag_of(args: argparse.Namespace) -> str:
     return made_by.hexdigest()
 
 
-def opened(args: argparse.Namespace) -> Boxes:
-    """The table, with a process for each connection, where that takes no memory for a table of its own."""
-    processes = MOST_CONNECTIONS if library_of(program_of(args.program)) else 1
-    return Pool(processes, args.table, header=args.header, program=args.program, timeout=args.timeout)
-
-
-def loaded(args: argparse.Namespace, boxes: Boxes) -> Table:
+def loaded(args: argparse.Namespace) -> tuple[Rtfilter, Table]:
+    """The table, and what is held beside it."""
+    boxes = Rtfilter(args.table, header=args.header)
     table = Table(Places(args.table, args.header), names_of(args.names), names_of(args.layers))
-    check_size(table, boxes)
+    if len(table.places) != len(boxes):
+        raise ValueError("the table has changed while it was read")
     names = ["density", *(table.layer_name(layer) for layer in table.places.layers())]
     if len(set(names)) < len(names):
         raise ValueError("two layers have the same name")
-    return table
+    return boxes, table
 
 
-def check_size(table: Table, boxes: Boxes) -> None:
-    if len(table.places) != len(boxes):
-        raise ValueError("the table has changed while it was read")
-
-
-def served_by(args: argparse.Namespace, port: int, table: Table | None = None, generation: int = 1) -> Served:
-    """What is served of the files as they are now, or of a table that is read already."""
-    with contextlib.ExitStack() as kept:
-        boxes = kept.enter_context(opened(args))
-        if table is None:
-            table = loaded(args, boxes)
-        check_size(table, boxes)
-        served = Served(Views(boxes, table), settings_of(args, port), generation, time.monotonic())
-        kept.pop_all()
-    return served
+def served_by(args: argparse.Namespace, port: int, views: Views, generation: int = 1) -> Served:
+    return Served(views, settings_of(args, port), generation, time.monotonic())
 
 
 def serve(
     args: argparse.Namespace,
     listener: socket.socket,
-    table: Table | None,
+    views: Views,
     ready: Callable[[Server], None],
     counts: Counts,
     ends: Ends | None = None,
@@ -531,16 +501,11 @@ def serve(
     signal.signal(signal.SIGHUP, lambda *_: write_soon(signalled))
     port = listener.getsockname()[1]
     log_accesses(args.log)
-    with Server(listener, served_by(args, port, table), counts, ends) as server:
-        try:
-            threading.Thread(target=keep_loaded, args=(args, server, port, again), daemon=True).start()
-            ready(server)
-            with contextlib.suppress(KeyboardInterrupt):
-                server.serve_forever()
-        finally:
-            server.served.views.close()
-        if server.failure is not None:
-            raise server.failure
+    with Server(listener, served_by(args, port, views), counts, ends) as server:
+        threading.Thread(target=keep_loaded, args=(args, server, port, again), daemon=True).start()
+        ready(server)
+        with contextlib.suppress(KeyboardInterrupt):
+            server.serve_forever()
 
 
 def keep_loaded(args: argparse.Namespace, server: Server, port: int, again: int) -> None:
@@ -548,7 +513,7 @@ def keep_loaded(args: argparse.Namespace, server: Server, port: int, again: int)
     nothing."""
     while os.read(again, 1 << 16):
         try:
-            server.served = served_by(args, port, generation=server.served.generation + 1)
+            server.served = served_by(args, port, Views(*loaded(args)), server.served.generation + 1)
             tell(f"the table is exchanged: {len(server.served.views)} boxes")
         except Exception as error:  # whatever it is: requests are answered from the table that is there
             server.counts.add("loads_failed_total")
@@ -579,10 +544,10 @@ def log_accesses(name: str | None) -> None:
         ACCESSES.propagate = False
 
 
-FAILURES = Ended, TimedOut, Disconnected, OSError, OverflowError, ValueError
+FAILURES = OSError, OverflowError, ValueError, MemoryError
 
 
-def work(args: argparse.Namespace, listener: socket.socket, table: Table, counts: Counts, ends: Ends) -> int:
+def work(args: argparse.Namespace, listener: socket.socket, views: Views, counts: Counts, ends: Ends) -> int:
     """Serves as one of many processes."""
 
     def ready(server: Server) -> None:
@@ -595,7 +560,7 @@ def work(args: argparse.Namespace, listener: socket.socket, table: Table, counts
 
     counts.take(ends.place)
     try:
-        serve(args, listener, table, ready, counts, ends)
+        serve(args, listener, views, ready, counts, ends)
     except FAILURES as error:
         ends.tell(f"serve.py: {error}")
         return 1
@@ -612,12 +577,11 @@ def main() -> int:
         with socket.create_server((args.listen, args.port), backlog=MOST_CONNECTIONS * args.processes) as listener:
             listener.setblocking(False)  # many may be told of one who connects
             counts = Counts(COUNTED, args.processes)
+            views = Views(*loaded(args))  # before workers are forked, which have it in common
             if args.processes == 1:
-                serve(args, listener, None, tell_address, counts)
+                serve(args, listener, views, tell_address, counts)
                 return 0
-            with Rtfilter(args.table, header=args.header, program=args.program, timeout=args.timeout) as boxes:
-                table = loaded(args, boxes)
-            return run_together(args.processes, partial(work, args, listener, table, counts), tell_address)
+            return run_together(args.processes, partial(work, args, listener, views, counts), tell_address)
     except FAILURES as error:
         tell(str(error))
         return 1

@@ -11,8 +11,7 @@ from mercator import DEEPEST, cells_of, cuts, window_of
 from mercator import Window as Sides
 from table import Table
 
-from rtfilter import All, Boxes, QueryError, Window
-from rtfilter.queries import on_words
+from rtfilter import All, QueryError, Rtfilter, Window
 
 MOST_IN_VIEW = 3000  # boxes: where a view has more, it shows counts
 MOST_IN_TILE = 5000
@@ -27,9 +26,9 @@ WITH_BOXES = ("find", "nearest")
 
 
 class Views:
-    """Views of a table that the program holds, with what is held beside it."""
+    """Views of a table, with what is held beside it."""
 
-    def __init__(self, boxes: Boxes, table: Table) -> None:
+    def __init__(self, boxes: Rtfilter, table: Table) -> None:
         self._boxes = boxes
         self._table = table
         # Finding these out looks at all boxes: it is done once.
@@ -46,27 +45,22 @@ class Views:
         """How many boxes were loaded."""
         return len(self._table.places)
 
-    def close(self) -> None:
-        self._boxes.close()
-
     def size(self) -> int:
-        """How many boxes the program has."""
+        """How many boxes the table has, by a query."""
         return self._boxes.count(All())
 
     def view(self, window: Sides, on: list[int] | None) -> dict[str, Any]:
         """The boxes that meet a window, or how many meet each of its cells. `QueryError` where it is no window."""
         count = self._boxes.count(Window(*window), on=on)
         if count <= MOST_IN_VIEW:
-            return {"count": count, "boxes": self._shown(self._boxes.find(Window(*window), on=on).ids)}
+            return {"count": count, "boxes": self._shown(self._boxes.find(Window(*window), on=on))}
         columns, rows = grid_of(window)
         across, along = cuts(*window[:2], columns), cuts(*window[2:], rows)
         return {"count": count, "across": across, "along": along, "counts": self._counts(cells_of(across, along), on)}
 
     def _counts(self, cells: list[Sides], on: list[int] | None) -> list[int]:
         """How many boxes meet each cell. One that lies over a border is counted on both sides of it."""
-        layers = on_words(on)
-        lines = ["count window %d %d %d %d" % cell + layers for cell in cells]
-        return [answers.total for answers in self._boxes.ask(lines)]
+        return [self._boxes.count(Window(*cell), on=on) for cell in cells]
 
     def _shown(self, ids: Sequence[int]) -> list[dict[str, Any]]:
         """Boxes for a page. Their ids are texts: numbers of JavaScript don't hold every id."""
@@ -86,7 +80,7 @@ class Views:
             return {"fault": f"{reply.code} {reply.text}"}
         if reply is None:
             return {"fault": "a line that is blank, or a comment, is not answered"}
-        answers: list[dict[str, Any]] = [{"id": str(id), "score": str(score)} for id, score in reply]
+        answers: list[dict[str, Any]] = [{"id": str(id), "score": str(score)} for id, score in zip(reply.ids, reply.scores)]
         if line.split()[0] in WITH_BOXES:
             answers = [{**shown, **answer} for shown, answer in zip(self._shown(reply.ids), answers)]
         nodes = None if cost is None or isinstance(cost, QueryError) else cost.total
@@ -102,7 +96,7 @@ class Views:
         asked = None if on is None else tuple(sorted(set(on)))
         if z <= self._level_with_counts(asked) or self._boxes.count(Window(*window), on=on) > MOST_IN_TILE:
             return self._density_tile(window, on)
-        ids = self._boxes.find(Window(*window), on=on).ids
+        ids = self._boxes.find(Window(*window), on=on)
         boxes = [*self._table.places.boxes(ids)]
         layers = {number: mvt.Layer(name) for number, name in self._layers.items()}
         owns = [*mvt.id_fields(ids)]

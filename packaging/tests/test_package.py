@@ -20,7 +20,7 @@ from support import DATA, PACKAGE, PROGRAM, ROOT
 LIBRARY = os.environ.get("RTFILTER_LIBRARY")  # librtfilter.a
 MAKE = ROOT / "packaging/make_packages.py"
 VERSION = (ROOT / "VERSION").read_text(encoding="utf-8").strip()
-TOOLS = "dpkg-buildpackage", "dh", "gcc", "objdump"
+TOOLS = "dpkg-buildpackage", "dh", "dh_python3", "gcc", "objdump"
 MODULES = {f"usr/lib/rtfilter/{name}.py": 0o644 for name in ("health", "listening", "prefork", "service")}
 LIBRARIES = "usr/lib/x86_64-linux-gnu"
 FILES = {  # beside each package's own documents
@@ -48,7 +48,7 @@ FILES = {  # beside each package's own documents
 }
 # The programs of python3-rtfilter, each with its page beside it.
 PROGRAMS = (
-    "cluster/ask.py", "cluster/cut.py", "cluster/measure.py", "cluster/trial.py", "geofence/fence.py", "geofence/measure.py", "languages/ask.sh", "roads/measure.py", "roads/snap.py", "tiles/make_map.py",
+    "geofence/fence.py", "geofence/measure.py", "languages/ask.sh", "roads/measure.py", "roads/snap.py", "tiles/make_map.py",
     "tiles/measure.py", "tiles/serve.py",
 )
 # lintian may say nothing else than that the debug symbols are names alone: the toolchain writes no line numbers.
@@ -95,14 +95,11 @@ class Versions(unittest.TestCase):
         project = tomllib.loads((PACKAGE / "pyproject.toml").read_text(encoding="utf-8"))["project"]
         manuals = [found(r'^\.TH \S+ 1 \S+ "rtfilter (\S+)"', (ROOT / f"docs/{it}.1").read_text())[1] for it in ("rtfilter", "rtfilter-serve")]
         changes = found(r"(?m)^## (\S+), ", (ROOT / "CHANGELOG.md").read_text(encoding="utf-8"))[1]
-        wheels = {it for page in ("docs/python-client.md", "clients/python/README.md")
-                  for it in re.findall(r"rtfilter-([\d.]+)-py3", (ROOT / page).read_text(encoding="utf-8"))}
         served = run(sys.executable, "-B", ROOT / "service/serve.py", "--version").split()[-1]
-        client = run(sys.executable, "-B", "-c", "import rtfilter; print(rtfilter.__version__)", env={**os.environ, "PYTHONPATH": PACKAGE})
         header = ".".join(re.findall(r"#define RTFILTER_VERSION_[MP]\w+ (\d+)", (ROOT / "include/rtfilter.h").read_text()))
         crate = tomllib.loads((ROOT / "bindings/rust/Cargo.toml").read_text(encoding="utf-8"))["package"]["version"]
-        named = [project["version"], *manuals, changes, *wheels, served, client.strip(), header, crate]
-        self.assertEqual(named, [VERSION] * 9)
+        named = [project["version"], *manuals, changes, served, header, crate]
+        self.assertEqual(named, [VERSION] * 7)
 
 
 class Packages(unittest.TestCase):
@@ -121,7 +118,7 @@ class Packages(unittest.TestCase):
     def setUp(self) -> None:
         wants(self, *TOOLS)
         if not LIBRARY:
-            self.skipTest("tests/users.py names no archive of the library")
+            self.skipTest("tests/pytests.py names no archive of the library")
 
     def test_they_are_the_same_each_time(self) -> None:
         """From another folder, at another time, with another mask, where the program and the library have other dates."""
@@ -130,9 +127,9 @@ class Packages(unittest.TestCase):
             program = shutil.copyfile(PROGRAM, Path(folder, "program"))
             library = shutil.copyfile(LIBRARY, Path(folder, "library"))
             made = run(sys.executable, MAKE, program, library, folder, cwd=folder, umask=0o077).split()
-            names = ("librtfilter-dev", "librtfilter0-dbgsym", "librtfilter0", "python3-rtfilter", "rtfilter-dbgsym",
+            names = ("librtfilter-dev", "librtfilter0-dbgsym", "librtfilter0", "python3-rtfilter-dbgsym", "python3-rtfilter", "rtfilter-dbgsym",
                      "rtfilter-service", "rtfilter")  # fmt: skip
-            kinds = ("amd64", "amd64", "amd64", "all", "amd64", "all", "amd64")
+            kinds = ("amd64", "amd64", "amd64", "amd64", "amd64", "amd64", "all", "amd64")
             self.assertEqual([Path(name).name for name in made], [f"{it}_{VERSION}-1_{kind}.deb" for it, kind in zip(names, kinds)])
             for name in made:
                 self.assertEqual(Path(name).read_bytes(), (self.room / Path(name).name).read_bytes(), name)
@@ -149,8 +146,12 @@ class Packages(unittest.TestCase):
             self.assertEqual(self.held(name), files | documents | units)
             self.assertEqual({Path(it).name for it in units}, UNITS if "service" in name else set())
             self.assertLessEqual({f"usr/share/doc/{name}/{it}" for it in ("changelog.Debian.gz", "copyright")}, documents.keys())
-        modules = {f"usr/lib/python3/dist-packages/rtfilter/{it.name}" for it in (PACKAGE / "rtfilter").iterdir() if it.is_file()}
-        self.assertEqual({it for it in self.held("python3-rtfilter") if "dist-packages" in it}, modules)
+        modules = {it.name for it in (PACKAGE / "rtfilter").iterdir() if it.is_file()} | {"_engine.abi3.so"}
+        held = {it for it in self.held("python3-rtfilter") if "dist-packages/rtfilter/" in it}
+        self.assertEqual({Path(it).name for it in held}, modules)
+        about = run("dpkg-deb", "--field", self.packages["python3-rtfilter"], "Depends")
+        self.assertRegex(about, r"librtfilter0 \(>= [\d.]+\)")
+        self.assertRegex(about, r"python3 \(>= 3\.11\)")
         programs = {f"usr/share/rtfilter/examples/{it}" for it in PROGRAMS}
         self.assertEqual({it for it, mode in self.held("python3-rtfilter").items() if mode == 0o755}, programs)
         for package in self.packages.values():
@@ -200,26 +201,27 @@ class Packages(unittest.TestCase):
 
     def test_installed_and_removed(self) -> None:
         """In a folder that stands for the system, which has the library in a version that is old enough, or not."""
-        as_root = [] if os.geteuid() == 0 else ["fakeroot"]
-        wants(self, "dpkg", *as_root)
+        wants(self, "dpkg")
+        if os.geteuid() != 0:
+            self.skipTest("root: the scripts of packages run in a folder that stands for the system")
         path = f"{os.environ['PATH']}:/usr/sbin:/sbin"  # dpkg looks for tools there, whether it needs them or not
         for library, is_enough in (("2.36-9", True), ("2.31-13", False)):
             with tempfile.TemporaryDirectory() as system:
                 data = Path(system, "var/lib/dpkg")
-                (data / "info").mkdir(parents=True)
-                (data / "updates").mkdir()
+                make_system(Path(system))
+                before = {it for it in Path(system).rglob("*") if it.is_file()}
                 (data / "status").write_text("\n".join(THERE.format(*it) for it in (("libc6", library), ("python3", "3.11.2-1"))))
-                dpkg = [*as_root, "env", f"PATH={path}", "dpkg", f"--root={system}", f"--log={os.devnull}"]
+                dpkg = ["env", f"PATH={path}", "dpkg", f"--root={system}", f"--log={os.devnull}"]
                 if not is_enough:
                     with self.assertRaisesRegex(AssertionError, "dependency problems"):
                         run(*dpkg, "--install", self.packages["rtfilter"])
                     continue
-                both = self.packages["rtfilter"], self.packages["python3-rtfilter"]
+                both = self.packages["rtfilter"], self.packages["librtfilter0"], self.packages["python3-rtfilter"]
                 run(*dpkg, "--install", *both)
                 told = run(Path(system, "usr/bin/rtfilter"), DATA / "boxes.csv", DATA / "queries.txt")
                 self.assertEqual(told, (DATA / "answers.txt").read_text())
                 asked = f"import rtfilter; print(rtfilter.Rtfilter('{DATA / 'boxes.csv'}').count(rtfilter.All()))"
-                words = {"PYTHONPATH": f"{system}/usr/lib/python3/dist-packages", "PATH": f"{system}/usr/bin:{path}"}
+                words = {"PYTHONPATH": f"{system}/usr/lib/python3/dist-packages", "PATH": f"{system}/usr/bin:{path}", "LD_LIBRARY_PATH": f"{system}/{LIBRARIES}"}
                 self.assertEqual(run("/usr/bin/python3", "-B", "-c", asked, env=words), "5\n")
                 words["PYTHONDONTWRITEBYTECODE"] = "1"
                 examples = Path(system, "usr/share/rtfilter/examples")
@@ -229,10 +231,10 @@ class Packages(unittest.TestCase):
                     self.assertIn(f'"{told_of}"', run("/usr/bin/python3", examples / name, file, env=words, input=lines))
                 run("/usr/bin/python3", examples / "tiles/make_map.py", f"{system}/map", "--boxes", "1000", env=words)
                 shutil.rmtree(f"{system}/map")
-                run(*dpkg, "--verify", "rtfilter", "python3-rtfilter")
-                run(*dpkg, "--purge", "rtfilter", "python3-rtfilter")
-                left = [path for path in Path(system).rglob("*") if path.is_file() and data not in path.parents]
-                self.assertEqual(left, [])
+                run(*dpkg, "--verify", "rtfilter", "python3-rtfilter", "librtfilter0")
+                run(*dpkg, "--purge", "rtfilter", "python3-rtfilter", "librtfilter0")
+                left = {path for path in Path(system).rglob("*") if path.is_file() and data not in path.parents}
+                self.assertEqual(left - before, {Path(system, "log")})
 
     def test_the_service_of_systemd(self) -> None:
         """Its user and the folder of its table are made; what it is told in /etc/default are words of its command."""
@@ -326,7 +328,7 @@ def make_system(system: Path) -> None:
     for file in ("/bin/sh", *re.findall(r"/\S+", run("ldd", "/bin/sh"))):
         Path(f"{system}{file}").parent.mkdir(parents=True, exist_ok=True)
         shutil.copy(file, f"{system}{file}")
-    log_calls(system / "usr/bin", Path("/log"), "adduser", "deb-systemd-helper", "deb-systemd-invoke", "systemctl")
+    log_calls(system / "usr/bin", Path("/log"), "adduser", "deb-systemd-helper", "deb-systemd-invoke", "systemctl", "py3compile", "py3clean")
 
 
 def headings(page: Path) -> set[str]:

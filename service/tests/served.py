@@ -18,7 +18,6 @@ from pathlib import Path
 from typing import Any
 
 ROOT = Path(__file__).resolve().parents[2]
-PACKAGE = ROOT / "clients/python"
 SERVICE = ROOT / "service/serve.py"
 BOXES = ROOT / "examples/data/boxes.csv"
 PROGRAM = os.environ["RTFILTER_PROGRAM"]
@@ -29,11 +28,10 @@ SYSTEM_PYTHON = "/usr/bin/python3"  # which other users may run too
 MOMENT = re.compile(r"^\d{4}-\d\d-\d\dT\d\d:\d\d:\d\dZ ", re.MULTILINE)  # at which a line was logged
 LONG = 20.0  # seconds after which what is waited for doesn't come
 
-sys.path[:0] = [str(PACKAGE), str(ROOT / "tests")]
+sys.path[:0] = [str(ROOT / "service"), str(ROOT / "tests")]
 
 import random_runs as random_runs  # for others too
-
-from rtfilter.prefork import library_of as library_of
+from prefork import library_of as library_of
 
 
 def until(is_so: Callable[[], object], what: str) -> None:

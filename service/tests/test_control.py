@@ -9,7 +9,7 @@ import sys
 import time
 import unittest
 
-from served import BOXES, LONG, MOMENT, PACKAGE, SERVICE, Case, Served, is_there, read_lines, send, table_of, until
+from served import BOXES, LONG, MOMENT, SERVICE, Case, Served, is_there, read_lines, send, table_of, until
 
 # A service whose program has told its size and ended, both before the service looks.
 ENDING = """
@@ -53,7 +53,7 @@ class Control(Case):
 
     def test_a_program_that_ends_as_soon_as_it_has_loaded(self) -> None:
         """It isn't the table: its end comes with what it tells of its size."""
-        words = [sys.executable, "-c", ENDING, str(SERVICE.parent), str(PACKAGE / "rtfilter")]
+        words = [sys.executable, "-c", ENDING, str(SERVICE.parent)]
         done = subprocess.run(words, capture_output=True, text=True, timeout=LONG)
         self.assertEqual((done.returncode, MOMENT.sub("", done.stderr)), (1, "the program has ended, with status 0\n"))
 

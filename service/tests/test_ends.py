@@ -86,7 +86,7 @@ class Ends(Case):
             given.bind(f"{self.folder}/given")
             given.listen()
             script = f'exec 3<&{given.fileno()}; LISTEN_FDS=1 LISTEN_PID=$$ exec "$@"'
-            options: dict[str, Any] = {"before": ["sh", "-c", script, "-"], "pass_fds": [given.fileno()]}
+            options: dict[str, Any] = {"before": ["bash", "-c", script, "-"], "pass_fds": [given.fileno()]}
             service = self.served(program=str(program), **options)
             service.signal(signal.SIGTERM)
             until(lambda: not service.programs, "the end of the program")

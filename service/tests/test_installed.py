@@ -84,7 +84,7 @@ class Installed(Case):
 class QuickStart(Case):
     def test_as_typed(self) -> None:
         """What the page shows, in a folder with what the repository has, by the system's Python and without pip."""
-        for name in ("service", "clients", "examples"):
+        for name in ("service", "python", "examples"):
             Path(self.folder, name).symlink_to(ROOT / name)
         Path(self.folder, "build").symlink_to(Path(PROGRAM).parent)
         served, client, netcat = re.findall(r"^```\n\$ (.*?)^```$", PAGE.read_text(), re.MULTILINE | re.DOTALL)

@@ -155,7 +155,7 @@ class Sockets(Case):
             early.connect(path)  # before the service is there
             script = f'exec 3<&{given.fileno()} 4<&{other.fileno()}; LISTEN_FDS=2 LISTEN_PID=$$ exec "$@"'
             given_ones = given.fileno(), other.fileno()
-            service = self.served(BOXES, before=["sh", "-c", script, "-"], pass_fds=given_ones)
+            service = self.served(BOXES, before=["bash", "-c", script, "-"], pass_fds=given_ones)
             self.assertEqual(talk(early, [b"count all\n"]), b"ok 1 5\n")
             self.assertEqual(talk(socket.create_connection(other.getsockname()), [b"count all"]), b"ok 1 5\n")
             self.assert_well(service)

@@ -21,7 +21,7 @@ STUBS = {
     "make": """echo "make $*" >> "$CALLS" """,
     "rt": """printf 'rt: rtfilter proved\\nrt: rtfilter_c proved\\n7 passed, 0 failed\\n'""",
     "python3": """case $* in
-  *client*) printf 'skipped test_pages: chromium: not installed\\n3 passed, 0 failed\\n' ;;
+  *map*) printf 'skipped test_pages: chromium: not installed\\n3 passed, 0 failed\\n' ;;
   *) printf '1 passed, 0 failed\\n' ;;
 esac""",
 }

@@ -1,8 +1,10 @@
 """What tests of examples share: processes that others have started, and the examples of a page."""
 
 import contextlib
+import json
 import os
 import select
+import subprocess
 import sys
 import tempfile
 import unittest
@@ -11,6 +13,7 @@ from typing import Any
 
 ROOT = Path(__file__).resolve().parents[3]
 PROGRAM = os.environ["RTFILTER_PROGRAM"]
+DEBIAN = "/usr/bin/python3"  # sees Debian's packages, as another Python on the path doesn't
 SOON = 60.0  # seconds, on a busy machine
 
 sys.path.append(str(ROOT / "tests"))
@@ -58,6 +61,25 @@ def is_gone(process: int) -> bool:
         return bool(select.select([descriptor], [], [], SOON)[0])
     finally:
         os.close(descriptor)
+
+
+SHAPELY = """
+import json, sys
+from shapely.geometry import Point, shape
+
+zones, points = json.load(sys.stdin)
+shapes = [shape(it) for it in zones]
+assert all(it.is_valid for it in shapes)
+json.dump([[at for at, zone in enumerate(shapes) if zone.covers(Point(it))] for it in points], sys.stdout)
+"""
+
+
+def told_by_shapely(test: unittest.TestCase, zones: Any, points: Any) -> Any:
+    """The zones that hold each point, as Debian's shapely has it. A test without it is skipped."""
+    if subprocess.run([DEBIAN, "-c", "import shapely"], capture_output=True).returncode:
+        test.skipTest("python3-shapely isn't installed")
+    done = subprocess.run([DEBIAN, "-c", SHAPELY], input=json.dumps([zones, points]).encode(), capture_output=True, check=True)
+    return json.loads(done.stdout)
 
 
 class Printed(unittest.TestCase):

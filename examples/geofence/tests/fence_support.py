@@ -17,10 +17,8 @@ EXAMPLE = HERE.parent
 ROOT = EXAMPLE.parent.parent
 LONGEST = 60.0  # seconds that anything may take, on a busy machine
 
-FOLDERS = "examples/common", "examples/common/tests", "clients/python/tests", "clients/python", "tests"
+FOLDERS = "examples/common", "examples/common/tests", "python", "tests"
 sys.path += [str(EXAMPLE), *(str(ROOT / folder) for folder in FOLDERS)]
-
-from common_support import PROGRAM, children_of
 
 
 class Lines:
@@ -51,7 +49,7 @@ class Running:
     """A fence that runs: positions go to `send`, or to `connected`, and events come from `events`."""
 
     def __init__(self, zones: Path, *options: str) -> None:
-        words = [sys.executable, "-B", str(EXAMPLE / "fence.py"), "--program", PROGRAM, *options, str(zones)]
+        words = [sys.executable, "-B", str(EXAMPLE / "fence.py"), *options, str(zones)]
         pipe = subprocess.PIPE
         self.process = subprocess.Popen(words, bufsize=0, stdin=pipe, stdout=pipe, stderr=pipe)
         assert self.process.stdin and self.process.stdout and self.process.stderr
@@ -77,10 +75,6 @@ class Running:
         self._input.close()
         told = [*iter(self.errors.next, "")]
         return self.process.wait(LONGEST), told
-
-    def program(self) -> int:
-        """The process that holds the zones."""
-        return children_of(self.process.pid)[-1]
 
     def __enter__(self) -> "Running":
         return self

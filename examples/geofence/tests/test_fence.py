@@ -10,21 +10,16 @@ import sys
 import tempfile
 import unittest
 from fractions import Fraction
-from functools import cache, partial
 from pathlib import Path
 from typing import Any
 
 from fence_support import EXAMPLE, LONGEST, ROOT, Running, brief, feature, square, write_zones
 
-from common_support import PROGRAM, Printed, anything
+from common_support import Printed, anything, told_by_shapely
 
-from bands import Bands, held_by
 from cutting import LONGEST_LINE, Cutter
+from geojson import whole_by
 from positions import whole
-from shapely_runs import told_by_shapely
-
-from rtfilter.geojson import whole_by
-from rtfilter.outlines import Outline
 
 UNIT = 10**7  # whole units of a degree
 MOST_MICROSECONDS = 40  # of processor time for a position: twice what the page promises, since others may use the machine
@@ -46,7 +41,7 @@ class Folder(unittest.TestCase):
 
     def told(self, lines: bytes, *options: str) -> list[Any]:
         """The events of a run over lines."""
-        words = [sys.executable, "-B", EXAMPLE / "fence.py", "--program", PROGRAM, *options, self.zones]
+        words = [sys.executable, "-B", EXAMPLE / "fence.py", *options, self.zones]
         done = subprocess.run([*map(str, words)], input=lines, capture_output=True, timeout=LONGEST)
         self.assertEqual(done.returncode, 0, done.stderr)
         return [json.loads(line) for line in done.stdout.splitlines()]
@@ -153,10 +148,8 @@ class Events(Folder):
 
     def test_zones_that_are_not_taken(self) -> None:
         twice = [feature(1, square(0, 0, 1)), feature(1, square(5, 0, 1))]
-        layers = [feature(number, square(number, 0, 1), layer=number) for number in range(65)]
         for features, told in anything(
             (twice, "features[1]: its id is that of features[0]: 1"),
-            (layers, "zones of 65 layers, and not of 64 or fewer"),
             ([feature(True, square(0, 0, 1))], "features[0]: an id that is neither a text nor a number: True"),
             ([feature(float("nan"), square(0, 0, 1))], "features[0]: an id that is neither a text nor a number: nan"),
             ([feature(1, square(0, 0, 1), layer=[1])], "features[0]: a layer that is neither a text nor a whole number: [1]"),
@@ -199,15 +192,14 @@ class Random(Folder):
         zones = [some_zone(chance) for _ in range(120)]
         places = [some_place(chance, zones) for _ in range(3000)]
         whole_zones = [{**zone, "coordinates": scaled(zone["coordinates"])} for zone in zones]
-        told = told_by_shapely(self, zones=whole_zones, points=places)
-        self.assertTrue(all(told["valid"]))
+        told = told_by_shapely(self, whole_zones, places)
         features = [{"type": "Feature", "id": f"z{at}", "properties": {}, "geometry": it} for at, it in enumerate(zones)]
         write_zones(self.zones, features)
         lines: list[str] = []
         wanted: list[tuple[int, str, str | None]] = []
         held: dict[str, list[int]] = {}
         last: dict[str, int] = {}
-        for line, ((x, y), holding) in enumerate(zip(places, told["holding"]), 1):
+        for line, ((x, y), holding) in enumerate(zip(places, told), 1):
             device, moment = f"d{chance.randrange(200)}", chance.randrange(5) + line // 10
             lines.append(f"{device},{degrees(x)},{degrees(y)},{moment}\n")
             if moment < last.get(device, moment):
@@ -220,25 +212,6 @@ class Random(Folder):
         self.assertEqual([(it["line"], it["event"], it.get("zone")) for it in events], wanted)
         self.assertGreater(sum(event == "enter" for _, event, _ in wanted), 1000)
         self.assertGreater(sum(event == "refused" for _, event, _ in wanted), 50)
-
-    def test_bands_hold_what_outlines_hold(self) -> None:
-        """Rings of any form on a small grid, so that sides meet points, each other, and lie along an axis; combs too."""
-        chance = random.Random(6)
-        with_bands = 0
-        for _ in range(150):
-            high = chance.choice([3, 10, 40])
-            rings = [some_ring_on_grid(chance, high) for _ in range(chance.randint(1, 3))]
-            held, outline, banded = held_by(rings), Outline(rings), cache(partial(Bands, rings))
-            with_bands += isinstance(held, Bands)
-            xs, ys = zip(*(place for ring in rings for place in ring))
-            for x in range(min(xs) - 1, max(xs) + 2):
-                for y in range(min(ys), max(ys) + 1):
-                    self.assertEqual(held.holds(x, y), outline.holds(x, y), (rings, x, y))
-                    if isinstance(held, Bands):
-                        self.assertEqual(banded(chance.randint(1, 99)).holds(x, y), outline.holds(x, y))
-        self.assertGreater(with_bands, 75)
-        comb = [(x, y * 1000) for x in range(0, 4000, 2) for y in ((0, 1) if x % 4 else (1, 0))]
-        self.assertIsInstance(held_by([[*comb, (4000, -1), (0, -1), comb[0]]]), Outline)
 
     def test_degrees_are_made_whole_exactly(self) -> None:
         chance, exactly = random.Random(7), whole_by(1e7)
@@ -261,14 +234,14 @@ class Random(Folder):
 
 class Costs(Folder):
     def test_a_million_devices(self) -> None:
-        environment = {**os.environ, "PYTHONPATH": os.pathsep.join([str(EXAMPLE), *(str(ROOT / it) for it in ("examples/common", "clients/python"))])}
+        environment = {**os.environ, "PYTHONPATH": os.pathsep.join([str(EXAMPLE), *(str(ROOT / it) for it in ("examples/common", "python"))])}
         words = [sys.executable, "-B", "-c", DEVICES_MEASURED]
         done = subprocess.run(words, env=environment, capture_output=True, check=True, timeout=LONGEST)
         self.assertLess(int(done.stdout) * 1024, 200e6)
 
     def test_processor_time(self) -> None:
         """In the best of a few runs: on a busy machine others take a part of the processor from one."""
-        words = [sys.executable, "-B", EXAMPLE / "measure.py", "--program", PROGRAM, "--positions", "60000", "--runs", "1"]
+        words = [sys.executable, "-B", EXAMPLE / "measure.py", "--positions", "60000", "--runs", "1"]
         best = math.inf
         for _ in range(5):
             done = subprocess.run([*map(str, words)], capture_output=True, text=True, check=True, timeout=LONGEST)
@@ -332,15 +305,6 @@ def some_place(chance: random.Random, zones: list[dict[str, Any]]) -> tuple[int,
         at = chance.randint(1, step - 1)
         return ax + (bx - ax) // step * at, ay + (by - ay) // step * at
     return (ax + bx) // 2, (ay + by) // 2
-
-
-def some_ring_on_grid(chance: random.Random, high: int) -> list[tuple[int, int]]:
-    """A ring of any form, which has an area and no side without a length."""
-    while True:
-        ring = [(chance.randint(0, 8), chance.randint(0, high)) for _ in range(chance.randint(3, 40))]
-        ring = [place for place, after in zip(ring, [*ring[1:], ring[0]]) if place != after]
-        if len({y for _, y in ring}) > 1 and len({x for x, _ in ring}) > 1:
-            return [*ring, ring[0]]
 
 
 if __name__ == "__main__":

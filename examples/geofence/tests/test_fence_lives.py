@@ -18,7 +18,6 @@ from typing import Any
 
 from fence_support import EXAMPLE, LONGEST, Connected, Running, brief, feature, square, write_zones
 
-from common_support import PROGRAM, children_of, is_gone
 
 PARK, LAKE = feature("park", square(0, 0, 10)), feature("lake", square(20, 0, 10))
 WIDER = feature("park", square(0, 0, 15), name="Park", layer="green")
@@ -54,13 +53,10 @@ class Exchanges(Lives):
         fence = self.running()
         fence.send("a,12,1,1", "b,25,1,1", "c,1,1,1")
         self.assertEqual(brief(fence.events.some(2)), [("b", "enter", "lake"), ("c", "enter", "park")])
-        program = fence.program()
         self.exchange(fence, WIDER)
         fence.send("a,12,1,2", "b,25,1,2", "c,1,1,2", "c,1,1,1")
         wanted = [("a", "enter", "park"), ("b", "leave", "lake"), ("c", "refused", "older than the last position of its device")]
         self.assertEqual(brief(fence.events.some(3)), wanted)
-        self.assertTrue(is_gone(program))
-        self.assertEqual(len(children_of(fence.process.pid)), 1)
         self.assertEqual(fence.ended(), (0, []))  # and nothing was loaded once more
 
     def test_zones_that_are_not_taken(self) -> None:
@@ -123,10 +119,8 @@ class Exchanges(Lives):
             fence.send(f"{number},1,1,1")
             self.assertEqual(brief(fence.events.some(1)), [(str(number), "enter", "park")])
         self.assertEqual(len(os.listdir(f"/proc/{fence.process.pid}/task")), 2)
-        program = fence.program()
         fence.signal(signal.SIGTERM)
         self.assertEqual(fence.ended(), (0, []))
-        self.assertTrue(is_gone(program))
 
     def test_a_storm_of_signals(self) -> None:
         """The last of them is followed by a load."""
@@ -174,9 +168,7 @@ class Ends(Lives):
         fence = self.running()
         fence.send("a,1,1,5", "b,25,1,5", "b,50,1,6", "a,1,1,7")
         kept = [fence.events.next() for _ in range(3)]
-        program = fence.program()
         fence.signal(signal.SIGKILL)
-        self.assertTrue(is_gone(program))
         again = self.running()
         again.send("a,1,1,4", "b,50,1,4")
         self.assertEqual(brief(again.events.some(1)), [("a", "enter", "park")])
@@ -206,14 +198,6 @@ class Ends(Lives):
         fence.started().send("a,50,1,6")
         self.assertEqual(brief(fence.events.some(1)), [("a", "leave", "park")])
 
-    def test_the_program_is_killed(self) -> None:
-        fence = self.running()
-        for number in range(3):
-            os.kill(fence.program(), signal.SIGKILL)
-            fence.send(f"{number},1,1,1")
-            self.assertEqual(brief(fence.events.some(1)), [(str(number), "enter", "park")])
-        self.assertEqual(fence.ended(), (0, []))
-
     def test_who_reads_events_leaves(self) -> None:
         fence = self.running()
         assert fence.process.stdout is not None
@@ -224,12 +208,11 @@ class Ends(Lives):
         fence.process.stdout = open(os.devnull, "rb")
 
     def test_an_end_while_nobody_reads_events(self) -> None:
-        """A signal ends it all the same, and its program with it, unless it is ignored from the start."""
+        """A signal ends it all the same, unless it is ignored from the start."""
         for number in (signal.SIGTERM, signal.SIGINT):
             if signal.getsignal(number) == signal.SIG_IGN:
                 continue
             fence = self.running()
-            program = fence.program()
             assert fence.process.stdin is not None
             os.set_blocking(fence.process.stdin.fileno(), False)
             lines = b"x\n" * 1000
@@ -237,20 +220,13 @@ class Ends(Lives):
                 pass
             fence.signal(number)
             self.assertEqual(fence.process.wait(LONGEST), 0)
-            self.assertTrue(is_gone(program))
 
     def test_a_closed_end(self) -> None:
         for closed in ("<&-", ">&-"):
-            words = [sys.executable, "-B", str(EXAMPLE / "fence.py"), "--program", PROGRAM, str(self.zones)]
+            words = [sys.executable, "-B", str(EXAMPLE / "fence.py"), str(self.zones)]
             done = subprocess.run(["sh", "-c", f'exec "$@" {closed}', "sh", *words], stderr=subprocess.PIPE, timeout=LONGEST)
             self.assertEqual(done.returncode, 1)
             self.assertEqual(done.stderr.splitlines()[1:], [b"fence.py: standard input or standard output is closed"])
-
-    def test_no_program(self) -> None:
-        fence = self.enterContext(Running(self.zones, "--program", "/no/such/program"))
-        status, errors = fence.ended()
-        self.assertEqual(status, 1)
-        self.assertRegex(errors[0], "No such file or directory: '/no/such/program'$")
 
 
 class Sockets(Lives):

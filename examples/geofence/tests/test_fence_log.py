@@ -13,7 +13,6 @@ from pathlib import Path
 
 from fence_support import EXAMPLE, LONGEST, feature, square, write_zones
 
-from common_support import PROGRAM
 
 import fence
 from devices import Devices
@@ -63,7 +62,7 @@ class Logs(unittest.TestCase):
         self.folder = Path(self.enterContext(tempfile.TemporaryDirectory()))
         self.zones, self.log = self.folder / "zones.geojson", self.folder / "log"
         write_zones(self.zones, ZONES)
-        self.fences = self.enterContext(Fences(str(self.zones), "layer", "", PROGRAM, LONGEST))
+        self.fences = Fences(str(self.zones), "layer", "")
 
     def answers(self, positions: bytes) -> bytes:
         """What one run writes, in this process."""
@@ -85,7 +84,7 @@ class Logs(unittest.TestCase):
 
     def run_fence(self, positions: bytes, *options: str, before: tuple[str, ...] = (), limit: int | None = None) -> tuple[int, str]:
         """A fence that appends to the log, whose file may be so long: its status, and what it says."""
-        words = [sys.executable, "-B", *before, str(EXAMPLE / "fence.py"), "--program", PROGRAM, "--devices", str(DEVICES)]
+        words = [sys.executable, "-B", *before, str(EXAMPLE / "fence.py"), "--devices", str(DEVICES)]
         limited = ["prlimit", f"--fsize={limit}", *words] if limit is not None else words
         track = self.folder / "track"
         track.write_bytes(positions)
@@ -150,7 +149,7 @@ class Logs(unittest.TestCase):
         positions = b"a,1,1,1\na,2,2,2\na,3,3,3\nb,3,3,3\nb,2,2,4\nb,5,5,5\na,15,15,4\nb,15,15,6\n"
         file = [feature(it["id"], it["geometry"]["coordinates"][0]) for it in (ZONES[2], ZONES[1], ZONES[0])]
         write_zones(self.zones, file)
-        self.fences = self.enterContext(Fences(str(self.zones), "layer", "", PROGRAM, LONGEST))
+        self.fences = Fences(str(self.zones), "layer", "")
         whole = self.answers(positions)
         self.assertEqual(whole.count(b'"leave"'), 6)
         self.log.write_bytes(b"".join(whole.splitlines(keepends=True)[:7]))

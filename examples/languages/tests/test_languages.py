@@ -14,9 +14,9 @@ HERE = Path(__file__).resolve().parent.parent
 ROOT = HERE.parent.parent
 PROGRAM = os.environ["RTFILTER_PROGRAM"]
 LONG = 120  # seconds that a virtual machine may take on a busy machine
-sys.path.append(str(ROOT / "clients/python"))
+sys.path.append(str(ROOT / "service"))
 
-from rtfilter.prefork import library_of
+from prefork import library_of
 
 LINES = ["find window 0 10 0 10", "nearest 1 -2147483648 -2147483648", "count all", "levels", "find what"]
 COMMANDS = {

@@ -13,10 +13,8 @@ ROOT = EXAMPLE.parent.parent
 DEBIAN = "/usr/bin/python3"  # sees Debian's packages, as another Python on the path doesn't
 LONGEST = 120.0  # seconds that anything may take, on a busy machine
 
-FOLDERS = "examples/common", "examples/common/tests", "clients/python/tests", "clients/python", "tests"
+FOLDERS = "examples/common", "examples/common/tests", "python", "tests"
 sys.path += [str(EXAMPLE), *(str(ROOT / folder) for folder in FOLDERS)]
-
-from common_support import PROGRAM
 
 
 def told_by_peers(test: unittest.TestCase, **asked: Any) -> dict[str, Any]:
@@ -41,7 +39,7 @@ def write_roads(file: Path, features: list[dict[str, Any]]) -> None:
 
 
 def words_of(*options: Any) -> list[str]:
-    return [sys.executable, "-B", str(EXAMPLE / "snap.py"), "--program", PROGRAM, *map(str, options)]
+    return [sys.executable, "-B", str(EXAMPLE / "snap.py"), *map(str, options)]
 
 
 def run(*options: Any, lines: bytes = b"") -> subprocess.CompletedProcess[bytes]:

@@ -17,17 +17,16 @@ from itertools import pairwise
 from operator import itemgetter
 from pathlib import Path
 from typing import Any
-from unittest import mock
 
 from snap_support import EXAMPLE, LONGEST, road, run, told_by_peers, words_of, write_roads
 
-from common_support import PROGRAM, Printed, anything, children_of
+from common_support import Printed, anything
 
 from planes import MOST_LATITUDE, Scaled, WebMercator, on_ground_from
 from roads import Found, Roads, point_of
 from snapping import Snapping
 
-from rtfilter.plane import Piece, Place
+from plane import Piece, Place
 
 MOST_MICROSECONDS = 300  # of processor time for a position: the page promises less, but others may use the machine
 Path_ = list[tuple[int, int]]
@@ -40,7 +39,7 @@ class Folder(unittest.TestCase):
 
     def roads(self, features: list[dict[str, Any]], plane: Any) -> Roads:
         write_roads(self.file, features)
-        return self.enterContext(Roads(str(self.file), plane, PROGRAM, LONGEST))
+        return Roads(str(self.file), plane)
 
 
 class Nearest(Folder):
@@ -118,19 +117,6 @@ class Nearest(Folder):
             (found,) = roads.nearest_each(k, [(0, 0)])
             self.assertEqual(ids_of(found), [1, 8, 0][:k])
 
-    def test_answers_are_bounded(self) -> None:
-        """So many boxes are asked for at once and no more, and all places are answered."""
-        chance = random.Random(9)
-        roads = self.roads([road(at, *some_paths(chance, 50)) for at in range(40)], Scaled(1))
-        places = [some_place(chance, 50) for _ in range(30)]
-        wanted = [*roads.nearest_each(3, places)]
-        bounded = mock.patch("rtfilter.lines.MOST_ANSWERS", 100)
-        with bounded, mock.patch.object(roads._boxes, "ask", wraps=roads._boxes.ask) as ask:
-            self.assertEqual([*roads.nearest_each(3, places)], wanted)
-        for (lines,), _ in ask.call_args_list:
-            self.assertLessEqual(sum(int(line.split()[1]) for line in lines), 100)
-        self.assertGreater(ask.call_count, 1)
-
     def test_long_slanting_roads(self) -> None:
         """A position lies in most of their boxes, so that nearly all are asked for."""
         chance = random.Random(3)
@@ -140,14 +126,6 @@ class Nearest(Folder):
         places = [some_place(chance, far // 4) for _ in range(20)]
         for (x, y), found in zip(places, roads.nearest_each(3, places)):
             self.assertEqual(ids_of(found), [at for _, at, _ in scanned(paths, x, y)[:3]])
-
-    def test_the_program_is_killed(self) -> None:
-        roads = self.roads([road("a", [(0, 0), (1, 1)])], Scaled(1))
-        for _ in range(3):
-            for process in children_of(os.getpid()):
-                if Path(f"/proc/{process}/comm").read_text() == f"{Path(PROGRAM).name}\n":
-                    os.kill(process, signal.SIGKILL)
-            self.assertEqual(ids_of(next(roads.nearest_each(1, [(5, 5)]))), ["a"])
 
 
 class OnTheGround(Folder):
@@ -365,7 +343,7 @@ class Program(Folder):
         self.assertEqual(json.loads(done.stdout), {"line": 1, "name": "a", "nearest": []})
 
     def test_processor_time(self) -> None:
-        words = [EXAMPLE / "measure.py", "--program", PROGRAM, "--positions", "20000", "--runs", "1"]
+        words = [EXAMPLE / "measure.py", "--positions", "20000", "--runs", "1"]
         done = subprocess.run([*map(str, words)], capture_output=True, text=True, check=True, timeout=LONGEST)
         for kind in ("line", "record"):
             each = re.search(rf"a {kind} (-?[0-9.]+) us", done.stdout)

@@ -1,11 +1,8 @@
-"""What isn't asked well is refused; tables of every kind are held as they are; the server ends with the program."""
+"""What isn't asked well is refused; tables of every kind are held as they are."""
 
-import contextlib
 import json
-import os
 import random
 import re
-import signal
 import socket
 import tempfile
 import time
@@ -15,7 +12,6 @@ from urllib.parse import quote
 
 from tiles_support import BOXES, LONGEST, Mapped, Server, told
 
-from common_support import children_of, is_gone
 
 import random_runs
 
@@ -166,10 +162,10 @@ class Tables(unittest.TestCase):
             self.assertEqual([layer["number"] for layer in about["layers"]], [0, 2, 63])
             self.assertEqual(server.get("/view?x1=2000000000&x2=2000000001&y1=0&y2=0")[1], b'{"count": 0, "boxes": []}')
 
-    def test_a_table_that_the_program_refuses(self) -> None:
+    def test_a_faulty_table(self) -> None:
         table = Path(self.enterContext(tempfile.TemporaryDirectory()), "boxes.csv")
         table.write_text("1,0,1,0,1\n1,0,1,0,1\n")
-        with self.assertRaisesRegex(RuntimeError, "^serve.py: rtfilter: table record 2: repeated id$"):
+        with self.assertRaisesRegex(RuntimeError, "^serve.py: table record 2: repeated id$"):
             Server(table)
 
     def test_names_that_are_none(self) -> None:
@@ -194,52 +190,6 @@ class Tables(unittest.TestCase):
         with Server(room / "boxes.csv", "--names", str(room / "names.csv")) as server:
             answers = json.loads(server.get("/ask?q=find+all+first+2")[1])["answers"]
             self.assertEqual([answer.get("name") for answer in answers], ["a\r\nb", None])
-
-    def test_the_program_ends(self) -> None:
-        """It is started anew, as long as the table is the one that the page shows."""
-        table = Path(self.enterContext(tempfile.TemporaryDirectory()), "boxes.csv")
-        table.write_text("1,0,1,0,1\n")
-        with Server(table) as server:
-            for _ in range(3):
-                program = server.program()
-                started = [program, *children_of(program)]
-                send(signal.SIGKILL, program)
-                self.assertTrue(all(map(is_gone, started)))
-                self.wait_for_answer(server)
-            table.write_text("1,0,1,0,1\n2,0,1,0,1\n")
-            processes = [server.program(), *children_of(server.program())]
-            send(signal.SIGKILL, *processes)
-            self.assertEqual(server.get("/ask?q=count+all")[0].status, 503)
-            status, errors = server.ended()
-            self.assertEqual((status, errors), (1, "serve.py: the program ended with status -9\n"))
-
-    def wait_for_answer(self, server: Server) -> None:
-        """One that was under way as the program ended is told so."""
-        until = time.monotonic() + 20
-        while server.get("/ask?q=count+all")[0].status != 200:
-            self.assertLess(time.monotonic(), until)
-
-    def test_a_question_that_takes_too_long(self) -> None:
-        """Its process alone is given up."""
-        table = Path(self.enterContext(tempfile.TemporaryDirectory()), "boxes.csv")
-        table.write_text("1,0,1,0,1\n")
-        with Server(table, "--timeout", "2") as server:
-            processes = children_of(server.program())
-            if not processes:
-                self.skipTest("there is no C compiler")
-            send(signal.SIGSTOP, *processes)  # whichever is asked
-            self.assertEqual(server.get("/ask?q=count+all")[0].status, 503)
-            send(signal.SIGCONT, *processes)
-            for _ in range(100):
-                response, body = server.get("/ask?q=count+all")
-                self.assertEqual((response.status, json.loads(body)["told"]), (200, 1))
-            self.assertEqual(len({*processes} - {*children_of(server.program())}), 1)
-
-
-def send(number: signal.Signals, *processes: int) -> None:
-    for process in processes:
-        with contextlib.suppress(ProcessLookupError):
-            os.kill(process, number)
 
 
 if __name__ == "__main__":

@@ -6,7 +6,6 @@ import gzip
 import json
 import os
 import re
-import select
 import signal
 import subprocess
 import tempfile
@@ -23,13 +22,11 @@ from chromium import Chromium
 from style_rules import faults_of
 from tiles_support import BOXES, EXAMPLE, LONGEST, PATIENCE, Mapped, Server, hostile_map, make_map, wants
 
-from common_support import PROGRAM, anything, children_of, descendants_of, is_gone
+from common_support import anything, children_of, descendants_of, is_gone
 
 from mercator import HALF, window_of
 from negotiation import is_known, takes_gzip
-from serve import MOST_CONNECTIONS
 
-from rtfilter.prefork import library_of
 
 TILE = "/8/128/127.pbf"
 EMPTY = "/9/0/0.pbf"
@@ -132,14 +129,6 @@ class Told(Serving):
 
     def test_health(self) -> None:
         self.assertEqual(self.json("/health"), {"boxes": BOXES})
-        with Server(self.table, "--timeout", "2") as server:
-            (holder,) = children_of(server.process.pid)
-            for process in (holder, *children_of(holder)):
-                os.kill(process, signal.SIGSTOP)
-            self.assertEqual(self.asked("/health", server)[0].status, 503)
-            for process in (holder, *children_of(holder)):
-                with contextlib.suppress(ProcessLookupError):
-                    os.kill(process, signal.SIGCONT)
 
 
 class Caches(Serving):
@@ -336,7 +325,7 @@ class Reloads(unittest.TestCase):
         (self.folder / "new").replace(self.table)
 
     def test_the_table_is_exchanged(self) -> None:
-        """Requests are answered all the while; the program of the table before ends. A faulty table changes nothing."""
+        """Requests are answered all the while. A faulty table changes nothing."""
         for processes in (1, 3):
             self.write(5)
             with Server(self.table, "--processes", str(processes)) as server:
@@ -356,8 +345,6 @@ class Reloads(unittest.TestCase):
                 connection.close()
                 self.assertEqual([metric(server, f"rtfilter_{it}") for it in ("boxes", "table_generation")], [9, 3])
                 until(lambda: metric(server, "rtfilter_connections") == 1)  # the one that asks
-                workers = [server.process.pid] if processes == 1 else children_of(server.process.pid)
-                until(lambda: all(len(children_of(worker)) == 1 for worker in workers))
                 status, told = server.end(signal.SIGINT)
             self.assertEqual(status, 0)
             self.assertEqual(told.count("serve.py: the table is exchanged: 9 boxes\n"), processes, told)
@@ -421,7 +408,7 @@ def until(is_so: Callable[[], bool]) -> None:
 class Processes(unittest.TestCase):
     def setUp(self) -> None:
         self.folder = Path(self.enterContext(tempfile.TemporaryDirectory()))
-        self.options = ["--processes", "3", *hostile_map(self.folder), "--timeout", "60"]
+        self.options = ["--processes", "3", *hostile_map(self.folder)]
         self.table = self.folder / "boxes.csv"
 
     def test_many_at_once(self) -> None:
@@ -445,18 +432,9 @@ class Processes(unittest.TestCase):
             self.assertEqual(faults, [])
             workers = children_of(server.process.pid)
             self.assertEqual(len(workers), 3)
-            self.assertTrue(all(len(children_of(worker)) == 1 for worker in workers))
             everyone = descendants_of(server.process.pid)
             server.end(signal.SIGKILL)
             self.assertTrue(all(map(is_gone, everyone)))
-
-    def test_a_process_for_each_connection(self) -> None:
-        """Of the program, so that a slow answer to one keeps nobody else from another, whichever takes them."""
-        if library_of(PROGRAM) is None:
-            self.skipTest("no C compiler, and so no library of the service")
-        with Server(self.table, *self.options) as server:
-            programs = [program for worker in children_of(server.process.pid) for program in children_of(worker)]
-            self.assertEqual([len(children_of(program)) for program in programs], [MOST_CONNECTIONS] * 3)
 
     def test_connections_are_shared_out(self) -> None:
         """Each process has about as many as another: a thread for each of them."""
@@ -491,43 +469,15 @@ class Processes(unittest.TestCase):
             self.assertEqual(server.end(number), (status, ""))
             self.assertTrue(all(map(is_gone, everyone)))
 
-    def test_a_program_that_ends(self) -> None:
-        """As with one process, it is started anew, as long as its table is the same; else all end, and one tells why."""
-        with Server(self.table, *self.options) as server:
-            for worker in children_of(server.process.pid):
-                os.kill(children_of(worker)[0], signal.SIGKILL)
-            statuses = {server.get("/ask?q=count+all")[0].status for _ in range(30)}
-            self.assertIn(200, statuses)
-            self.table.write_text("1,0,0,0,0\n")
-            for worker in children_of(server.process.pid):
-                for process in (*children_of(worker), *descendants_of(worker)):
-                    with contextlib.suppress(ProcessLookupError):
-                        os.kill(process, signal.SIGKILL)
-            with contextlib.suppress(OSError):
-                for _ in range(100):
-                    server.get("/ask?q=count+all")
-            status, errors = server.ended()
-            self.assertEqual((status, errors), (1, "serve.py: the program ended with status -9\n"))
-
     def test_a_table_that_is_not_taken(self) -> None:
         self.table.write_text("1,0,1,0,1\n1,0,1,0,1\n")
-        with self.assertRaisesRegex(RuntimeError, "^serve.py: rtfilter: table record 2: repeated id\n$"):
+        with self.assertRaisesRegex(RuntimeError, "^serve.py: table record 2: repeated id\n$"):
             Server(self.table, *self.options)
-
-    def test_no_program_for_the_workers(self) -> None:
-        """What a worker can't do is told once, and all end: here the program goes away after the first look."""
-        program = self.folder / "rtfilter"
-        os.symlink(os.environ["RTFILTER_PROGRAM"], program)
-        once = self.folder / "once"
-        once.write_text(f'#!/bin/sh\n[ -e "{self.folder}/seen" ] && exit 6\ntouch "{self.folder}/seen"\nexec "{program}" "$@"\n')
-        once.chmod(0o755)
-        with self.assertRaisesRegex(RuntimeError, "^serve.py: .*6\n$"):
-            Server(self.table, *self.options, program=str(once))
 
 
 class Cost(unittest.TestCase):
     def test_a_tile(self) -> None:
-        """Processor time of the server and the program together, compression and all."""
+        """Processor time of the server, compression and all."""
         folder = Path(self.enterContext(tempfile.TemporaryDirectory()))
         make_map(folder, 100_000)
         with Server(folder / "boxes.csv", "--names", str(folder / "names.csv")) as server:

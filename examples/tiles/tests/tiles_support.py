@@ -56,8 +56,8 @@ def ids_told(table: Path, line: str) -> list[int]:
 class Server:
     """A server of a table, as a process."""
 
-    def __init__(self, table: Path, *options: str, program: str = PROGRAM) -> None:
-        words = [sys.executable, "-B", EXAMPLE / "serve.py", "--port", "0", "--program", program, *options, table]
+    def __init__(self, table: Path, *options: str) -> None:
+        words = [sys.executable, "-B", EXAMPLE / "serve.py", "--port", "0", *options, table]
         self.process = subprocess.Popen([*map(str, words)], stdout=subprocess.PIPE, stderr=subprocess.PIPE, text=True)
         assert self.process.stdout is not None
         self.address = self.process.stdout.readline().strip()
@@ -85,14 +85,9 @@ class Server:
             connection.shutdown(socket.SHUT_WR)
             return b"".join(iter(lambda: connection.recv(1 << 16), b""))
 
-    def program(self) -> int:
-        """The process that holds the table."""
-        return children_of(self.process.pid)[0]
-
     def seconds(self) -> float:
-        """Processor time so far, of the server, the program, and its processes."""
-        holder = self.program()
-        return sum(map(seconds_of, (self.process.pid, holder, *children_of(holder))))
+        """Processor time so far, of all its processes."""
+        return sum(map(seconds_of, (self.process.pid, *children_of(self.process.pid))))
 
     def end(self, number: int = signal.SIGTERM) -> tuple[int, str]:
         """Its exit status and what it has written on standard error."""

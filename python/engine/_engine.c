@@ -1,0 +1,1110 @@
+/* librtfilter for Python, by the limited API: one build serves Python 3.11 and later.
+ *
+ * Regions and orders are tuples of the classes that `know` receives. Arrays come in by the buffer protocol and go out as
+ * bytearrays, so that nothing here depends on numpy. The interpreter's lock is released while the library is called. */
+#define Py_LIMITED_API 0x030B0000
+#define PY_SSIZE_T_CLEAN
+#include <Python.h>
+#include <errno.h>
+#include <rtfilter.h>
+#include <stddef.h>
+#include <stdlib.h>
+#include <string.h>
+#include <time.h>
+
+enum {
+    FEW = 256,            /* answers that a session has a buffer for at first */
+    MANY = 1 << 20,       /* answers, and bytes of a reply, that it keeps a buffer for */
+    STEP = 64,            /* queries of one call of the library, at most */
+    SLICE_NS = 10000000,  /* after so many nanoseconds a signal is looked for */
+    MOST_VERTICES = 16,
+};
+
+static PyObject *table_error, *query_error; /* exceptions */
+
+/* ---- Tables and their sessions */
+
+/* A session, which one call at a time uses, and buffers for its answers. */
+typedef struct worker {
+    struct worker *next;
+    rtfilter_session session;
+    size_t capacity;
+    int64_t *ids;
+    rtfilter_score *scores;
+} worker;
+
+typedef struct {
+    PyObject_HEAD
+    rtfilter_session first; /* no query uses it, so that it can be shared at any time */
+    worker *idle;           /* a stack, guarded by the interpreter's lock, as `first` is */
+} Table;
+
+static PyObject *failed(int code)
+{
+    if (code == RTFILTER_NO_MEMORY)
+        return PyErr_NoMemory();
+    PyErr_SetString(code == RTFILTER_BAD_PROCESSOR ? PyExc_RuntimeError : PyExc_SystemError, rtfilter_message(code));
+    return NULL;
+}
+
+static void end_worker(worker *it)
+{
+    rtfilter_close(&it->session);
+    free(it->ids);
+    free(it->scores);
+    free(it);
+}
+
+/* Resizes the buffers. Those of before stay where there is no memory. */
+static bool resize(worker *it, size_t capacity)
+{
+    int64_t *ids = realloc(it->ids, capacity * sizeof *ids);
+    rtfilter_score *scores = ids ? realloc(it->scores, capacity * sizeof *scores) : NULL;
+    it->ids = ids ? ids : it->ids;
+    it->scores = scores ? scores : it->scores;
+    if (scores || (ids && capacity < it->capacity))
+        it->capacity = capacity;
+    return scores;
+}
+
+static worker *new_worker(Table *table)
+{
+    worker *it = calloc(1, sizeof *it);
+    const int code = it && resize(it, FEW) ? rtfilter_share(&table->first, &it->session) : RTFILTER_NO_MEMORY;
+    if (code == RTFILTER_OK)
+        return it;
+    if (it)
+        end_worker(it);
+    failed(code);
+    return NULL;
+}
+
+/* A session for one call: an idle one, or one more. */
+static worker *take(Table *table)
+{
+    worker *it = table->idle;
+    if (!table->first.at) {
+        PyErr_SetString(PyExc_ValueError, "the table was closed");
+        return NULL;
+    }
+    if (!it)
+        return new_worker(table);
+    table->idle = it->next;
+    return it;
+}
+
+static void give_back(Table *table, worker *it)
+{
+    if (!table->first.at) { /* closed during the call */
+        end_worker(it);
+        return;
+    }
+    if (it->capacity > MANY)
+        resize(it, FEW);
+    it->next = table->idle;
+    table->idle = it;
+}
+
+static PyObject *table_close(Table *self, PyObject *Py_UNUSED(unused))
+{
+    for (worker *it; (it = self->idle);) {
+        self->idle = it->next;
+        end_worker(it);
+    }
+    rtfilter_close(&self->first);
+    return Py_NewRef(Py_None);
+}
+
+static void free_object(PyObject *self)
+{
+    PyTypeObject *type = Py_TYPE(self);
+    ((freefunc)PyType_GetSlot(type, Py_tp_free))(self);
+    Py_DECREF(type);
+}
+
+static void table_free(PyObject *self)
+{
+    Py_DECREF(table_close((Table *)self, NULL));
+    free_object(self);
+}
+
+/* ---- Buffers */
+
+/* Views a contiguous buffer of items of one size, as many as *len where that isn't negative; else sets it. */
+static bool view_items(PyObject *from, Py_buffer *view, Py_ssize_t size, Py_ssize_t *len)
+{
+    if (PyObject_GetBuffer(from, view, PyBUF_C_CONTIGUOUS) < 0)
+        return false;
+    if (view->len % size == 0 && (*len < 0 || view->len == *len * size)) {
+        *len = view->len / size;
+        return true;
+    }
+    PyErr_Format(PyExc_TypeError, "a buffer of %zd bytes for %zd items of %zd bytes", view->len, *len, size);
+    PyBuffer_Release(view);
+    return false;
+}
+
+static void release(Py_buffer *views, int count)
+{
+    while (count > 0)
+        PyBuffer_Release(views + --count);
+}
+
+/* ---- Opening */
+
+static PyObject *raise_fault(const rtfilter_fault *fault)
+{
+    PyObject *error = PyObject_CallFunction(table_error, "IIK", (unsigned)fault->kind, (unsigned)fault->record,
+                                            (unsigned long long)fault->field);
+    if (error)
+        PyErr_SetObject(table_error, error);
+    Py_XDECREF(error);
+    return NULL;
+}
+
+static PyObject *opened(Table *self, int code, const rtfilter_fault *fault)
+{
+    if (code == RTFILTER_OK)
+        return (PyObject *)self;
+    Py_DECREF(self);
+    if (code == RTFILTER_BAD_TABLE)
+        return raise_fault(fault);
+    if (code != RTFILTER_BAD_SETTING)
+        return failed(code);
+    PyErr_SetString(PyExc_ValueError, "fanout is 2 to 64, and max_entries 1 to 16777216");
+    return NULL;
+}
+
+/* A setting that is out of the range of its member becomes 0, which the library refuses. */
+static rtfilter_settings settings_of(int header, long long fanout, long long most)
+{
+    rtfilter_settings settings = RTFILTER_DEFAULTS;
+    settings.header = header;
+    settings.fanout = fanout < 0 || fanout > UINT8_MAX ? 0 : (uint8_t)fanout;
+    settings.max_entries = most < 0 || most > UINT32_MAX ? 0 : (uint32_t)most;
+    return settings;
+}
+
+static PyObject *open_file(PyTypeObject *type, PyObject *args)
+{
+    PyObject *name, *path, *table = NULL;
+    int header;
+    long long fanout, most;
+    if (!PyArg_ParseTuple(args, "OpLL", &name, &header, &fanout, &most) || !PyUnicode_FSConverter(name, &path))
+        return NULL;
+    const rtfilter_settings settings = settings_of(header, fanout, most);
+    Table *self = (Table *)PyType_GenericAlloc(type, 0);
+    if (self) {
+        rtfilter_fault fault;
+        const char *chars = PyBytes_AsString(path);
+        int code, cause;
+        Py_BEGIN_ALLOW_THREADS
+        code = rtfilter_open_file(&self->first, chars, &settings, &fault);
+        cause = errno;
+        Py_END_ALLOW_THREADS
+        if (code == RTFILTER_BAD_FILE) {
+            Py_DECREF(self);
+            errno = cause;
+            PyErr_SetFromErrnoWithFilenameObject(PyExc_OSError, name);
+        } else
+            table = opened(self, code, &fault);
+    }
+    Py_DECREF(path);
+    return table;
+}
+
+static PyObject *open_arrays(PyTypeObject *type, PyObject *args)
+{
+    enum { COLUMNS = 6, LAYERS = 5 };
+    static const Py_ssize_t sizes[COLUMNS] = {8, 4, 4, 4, 4, 1};
+    PyObject *from[COLUMNS], *table = NULL;
+    long long fanout, most;
+    if (!PyArg_ParseTuple(args, "(OOOOOO)LL", from, from + 1, from + 2, from + 3, from + 4, from + LAYERS, &fanout, &most))
+        return NULL;
+    const bool has_layers = from[LAYERS] != Py_None;
+    const int columns = has_layers ? COLUMNS : LAYERS;
+    Py_buffer of[COLUMNS] = {0};
+    Py_ssize_t len = -1;
+    int count = 0;
+    while (count < columns && view_items(from[count], of + count, sizes[count], &len))
+        count++;
+    Table *self = count == columns ? (Table *)PyType_GenericAlloc(type, 0) : NULL;
+    if (self) {
+        const rtfilter_settings settings = settings_of(0, fanout, most);
+        const uint8_t *layers = has_layers && len > 0 ? of[LAYERS].buf : NULL;
+        rtfilter_fault fault;
+        int code;
+        Py_BEGIN_ALLOW_THREADS
+        code = rtfilter_open_arrays(&self->first, (size_t)len, of[0].buf, of[1].buf, of[2].buf, of[3].buf, of[4].buf, layers,
+                                    &settings, &fault);
+        Py_END_ALLOW_THREADS
+        table = opened(self, code, &fault);
+    }
+    release(of, count);
+    return table;
+}
+
+/* ---- A query */
+
+typedef struct {
+    rtfilter_query query;
+    rtfilter_point vertices[MOST_VERTICES];
+    PyObject *region; /* borrowed; for errors */
+    bool has_scores;
+} request;
+
+#define AT(member) offsetof(rtfilter_query, member)
+#define BOX {AT(min_x), AT(max_x), AT(min_y), AT(max_y)}
+enum { CIRCLE = 4, POLYGON = 5, ORDERS = 6, KINDS = 8 };
+
+/* Regions and orders by their classes: the code, and where each number goes. */
+static struct kind {
+    PyObject *class;
+    uint32_t code;
+    int numbers;
+    size_t at[4];
+} kinds[KINDS] = {
+    {NULL, RTFILTER_ALL, 0, {0}},
+    {NULL, RTFILTER_WINDOW, 4, BOX},
+    {NULL, RTFILTER_INSIDE, 4, BOX},
+    {NULL, RTFILTER_COVERS, 4, BOX},
+    {NULL, RTFILTER_CIRCLE, 3, {AT(x), AT(y), AT(radius)}},
+    {NULL, RTFILTER_POLYGON, 0, {0}},
+    {NULL, RTFILTER_NEAR, 2, {AT(near_x), AT(near_y)}},
+    {NULL, RTFILTER_SMALLEST, 0, {0}},
+};
+
+/* Raises QueryError. A query that is one of many has a place; `at` is negative for one by itself. */
+static PyObject *raise_query(PyObject *region, Py_ssize_t at, const char *code, const char *text)
+{
+    PyObject *place = at < 0 ? Py_NewRef(Py_None) : PyLong_FromSsize_t(at);
+    PyObject *error = place ? PyObject_CallFunction(query_error, "OOss", region ? region : Py_None, place, code, text) : NULL;
+    if (error)
+        PyErr_SetObject(query_error, error);
+    Py_XDECREF(error);
+    Py_XDECREF(place);
+    return NULL;
+}
+
+static PyObject *raise_refused(const request *it)
+{
+    const bool is_polygon = it->query.region == RTFILTER_POLYGON;
+    return raise_query(it->region, -1, is_polygon ? "Q9" : "Q7", is_polygon ? "polygon not strictly convex" : "minimum above maximum");
+}
+
+/* A whole number, or what Python takes for an index. A new reference. */
+static PyObject *whole(PyObject *number, PyObject *of)
+{
+    PyObject *found = PyLong_Check(number) ? Py_NewRef(number) : PyNumber_Index(number);
+    if (!found && PyErr_ExceptionMatches(PyExc_TypeError))
+        PyErr_Format(PyExc_TypeError, "%R isn't a whole number: %R", number, of ? of : number);
+    return found;
+}
+
+static bool put_number(const request *it, PyObject *number, PyObject *of, void *field, bool is_unsigned)
+{
+    int overflow;
+    PyObject *found = whole(number, of);
+    if (!found)
+        return false;
+    const long long value = PyLong_AsLongLongAndOverflow(found, &overflow);
+    Py_DECREF(found);
+    if (overflow || value < (is_unsigned ? 0 : INT32_MIN) || value > (is_unsigned ? (long long)UINT32_MAX : INT32_MAX)) {
+        raise_query(it->region, -1, "Q6", "out of range");
+        return false;
+    }
+    const uint32_t bits = (uint32_t)value;
+    memcpy(field, &bits, sizeof bits);
+    return true;
+}
+
+static bool put_vertices(request *it, PyObject *polygon)
+{
+    PyObject *pairs = PyTuple_GetItem(polygon, 0), *x, *y;
+    const Py_ssize_t count = pairs ? PyTuple_Size(pairs) : -1;
+    if (count >= 0 && (count < 3 || count > MOST_VERTICES))
+        raise_query(polygon, -1, "Q8", "vertex count");
+    for (Py_ssize_t at = 0; at < count && !PyErr_Occurred(); at++)
+        if (PyArg_ParseTuple(PyTuple_GetItem(pairs, at), "OO;a vertex is a pair (x, y)", &x, &y) &&
+            put_number(it, x, polygon, &it->vertices[at].x, false))
+            put_number(it, y, polygon, &it->vertices[at].y, false);
+    it->query.vertices = (uint32_t)count;
+    return !PyErr_Occurred();
+}
+
+static const struct kind *kind_of(PyObject *class, int from, int to)
+{
+    for (int at = from; at < to; at++)
+        if (kinds[at].class == class)
+            return kinds + at;
+    return NULL;
+}
+
+static bool put_numbers(request *it, const struct kind *kind, PyObject *value)
+{
+    for (int at = 0; at < kind->numbers; at++) {
+        PyObject *number = PyTuple_GetItem(value, at);
+        if (!number || !put_number(it, number, value, (char *)&it->query + kind->at[at], kind->at[at] == AT(radius)))
+            return false;
+    }
+    return true;
+}
+
+static bool put_region(request *it, PyObject *value)
+{
+    const struct kind *kind = kind_of((PyObject *)Py_TYPE(value), 0, ORDERS);
+    if (!kind) {
+        PyErr_Format(PyExc_TypeError, "%R is no region", value);
+        return false;
+    }
+    it->region = value;
+    it->query.region = kind->code;
+    if (!put_numbers(it, kind, value))
+        return false;
+    if (kind->code == RTFILTER_POLYGON)
+        return put_vertices(it, value);
+    if (kind->code == RTFILTER_CIRCLE) {
+        it->query.order = RTFILTER_NEAR;
+        it->query.near_x = it->query.x;
+        it->query.near_y = it->query.y;
+    }
+    if (it->query.min_x <= it->query.max_x && it->query.min_y <= it->query.max_y)
+        return true;
+    raise_refused(it);
+    return false;
+}
+
+static bool put_order(request *it, PyObject *value)
+{
+    const struct kind *kind = kind_of((PyObject *)Py_TYPE(value), ORDERS, KINDS);
+    if (!kind) {
+        PyErr_Format(PyExc_TypeError, "%R is no order", value);
+        return false;
+    }
+    it->query.order = kind->code;
+    return put_numbers(it, kind, value);
+}
+
+static bool put_limit(request *it, PyObject *number)
+{
+    PyObject *found = whole(number, NULL);
+    if (!found)
+        return false;
+    it->query.limit = PyLong_AsUnsignedLongLong(found);
+    Py_DECREF(found);
+    if (PyErr_Occurred() && PyErr_ExceptionMatches(PyExc_OverflowError)) {
+        PyErr_Clear();
+        raise_query(it->region, -1, "Q6", "out of range");
+    }
+    return !PyErr_Occurred();
+}
+
+static bool put_layer(request *it, PyObject *number)
+{
+    int overflow;
+    if (PyBool_Check(number)) {
+        PyErr_Format(PyExc_TypeError, "a layer is a whole number, and not %R", number);
+        return false;
+    }
+    PyObject *found = whole(number, NULL);
+    const long layer = found ? PyLong_AsLongAndOverflow(found, &overflow) : 0;
+    if (!found)
+        return false;
+    Py_DECREF(found);
+    if (overflow || layer < 0 || layer > 63) {
+        PyErr_Format(PyExc_ValueError, "a layer is 0 to 63, and not %R", number);
+        return false;
+    }
+    it->query.layers |= UINT64_C(1) << layer;
+    return true;
+}
+
+/* One layer, or an iterable of layers. */
+static bool put_layers(request *it, PyObject *on)
+{
+    it->query.layers = 0;
+    if (PyUnicode_Check(on) || PyBytes_Check(on)) {
+        PyErr_Format(PyExc_TypeError, "layers are whole numbers, and not %R", on);
+        return false;
+    }
+    PyObject *each = PyLong_Check(on) ? NULL : PyObject_GetIter(on), *layer;
+    if (!each && PyErr_Occurred() && !PyErr_ExceptionMatches(PyExc_TypeError))
+        return false;
+    if (!each) { /* no iterable */
+        PyErr_Clear();
+        return put_layer(it, on);
+    }
+    bool is_sound = true;
+    while (is_sound && (layer = PyIter_Next(each))) {
+        is_sound = put_layer(it, layer);
+        Py_DECREF(layer);
+    }
+    Py_DECREF(each);
+    if (!PyErr_Occurred() && !it->query.layers)
+        PyErr_SetString(PyExc_ValueError, "no layer is given; None stands for all layers");
+    return !PyErr_Occurred();
+}
+
+static bool put_rest(request *it, PyObject *order, PyObject *first, PyObject *on)
+{
+    return (order == Py_None || put_order(it, order)) && (on == Py_None || put_layers(it, on)) &&
+           (first == Py_None || put_limit(it, first));
+}
+
+/* The arguments of a call, by place or name: region, order, first, on, scores. */
+enum { REGION, ORDER, FIRST, ON, SCORES, ARGUMENTS, BY_PLACE = ON };
+static const char *const argument_names[ARGUMENTS] = {"region", "order", "first", "on", "scores"};
+
+static bool put_arguments(PyObject **given, PyObject *const *args, Py_ssize_t count, PyObject *names)
+{
+    const Py_ssize_t named = names ? PyTuple_Size(names) : 0;
+    if (count > BY_PLACE) {
+        PyErr_Format(PyExc_TypeError, "%zd arguments by place, of at most %d", count, BY_PLACE);
+        return false;
+    }
+    for (Py_ssize_t at = 0; at < count; at++)
+        given[at] = args[at];
+    for (Py_ssize_t at = 0; at < named; at++) {
+        PyObject *name = PyTuple_GetItem(names, at);
+        int place = 0;
+        while (place < ARGUMENTS && PyUnicode_CompareWithASCIIString(name, argument_names[place]))
+            place++;
+        if (place == ARGUMENTS || (place < count && place < BY_PLACE)) {
+            PyErr_Format(PyExc_TypeError, place == ARGUMENTS ? "no argument is called %R" : "argument %R twice", name);
+            return false;
+        }
+        given[place] = args[count + at];
+    }
+    if (!given[REGION])
+        PyErr_SetString(PyExc_TypeError, "no region");
+    return given[REGION];
+}
+
+static bool request_of(request *it, PyObject *const *args, Py_ssize_t count, PyObject *names)
+{
+    PyObject *given[ARGUMENTS] = {NULL, Py_None, Py_None, Py_None, Py_False};
+    it->query = rtfilter_all();
+    it->region = NULL;
+    if (!put_arguments(given, args, count, names))
+        return false;
+    const int has_scores = PyObject_IsTrue(given[SCORES]);
+    it->has_scores = has_scores > 0;
+    return has_scores >= 0 && put_region(it, given[REGION]) && put_rest(it, given[ORDER], given[FIRST], given[ON]);
+}
+
+/* ---- Answers to one query, as lists */
+
+static PyObject *score_of(const rtfilter_score *score)
+{
+    if (!score->high)
+        return PyLong_FromUnsignedLongLong(score->low);
+    char digits[40];
+    PyOS_snprintf(digits, sizeof digits, "%llx%016llx", (unsigned long long)score->high, (unsigned long long)score->low);
+    return PyLong_FromString(digits, NULL, 16);
+}
+
+static PyObject *pair_of(int64_t id, const rtfilter_score *score)
+{
+    PyObject *first = PyLong_FromLongLong(id), *second = score_of(score);
+    PyObject *pair = first && second ? PyTuple_Pack(2, first, second) : NULL;
+    Py_XDECREF(first);
+    Py_XDECREF(second);
+    return pair;
+}
+
+static PyObject *list_of(const int64_t *ids, const rtfilter_score *scores, Py_ssize_t count)
+{
+    PyObject *list = PyList_New(count);
+    for (Py_ssize_t at = 0; list && at < count; at++) {
+        PyObject *item = scores ? pair_of(ids[at], scores + at) : PyLong_FromLongLong(ids[at]);
+        if (!item || PyList_SetItem(list, at, item) < 0)
+            Py_CLEAR(list);
+    }
+    return list;
+}
+
+/* Finds all answers to a query into the buffers of a session: their number, or -1 with an exception. */
+static Py_ssize_t find_all(worker *by, const request *it)
+{
+    rtfilter_queries queries = {&it->query, 1, it->vertices, it->query.vertices};
+    size_t skip = 0, count = 0;
+    int code = RTFILTER_FULL;
+    while (code == RTFILTER_FULL) {
+        if (count == by->capacity && !resize(by, 4 * by->capacity)) {
+            PyErr_NoMemory();
+            return -1;
+        }
+        rtfilter_answers part = {by->ids + count, it->has_scores ? by->scores + count : NULL, by->capacity - count, NULL, 0, 0};
+        Py_BEGIN_ALLOW_THREADS
+        code = rtfilter_find(&by->session, &queries, skip, &part);
+        rtfilter_continue(&queries, &skip, &part);
+        Py_END_ALLOW_THREADS
+        count += part.found;
+    }
+    if (code == RTFILTER_BAD_QUERY)
+        raise_refused(it);
+    else if (code != RTFILTER_OK)
+        failed(code);
+    return code == RTFILTER_OK ? (Py_ssize_t)count : -1;
+}
+
+static PyObject *found(Table *self, const request *it)
+{
+    worker *by = take(self);
+    if (!by)
+        return NULL;
+    const Py_ssize_t count = find_all(by, it);
+    PyObject *list = count < 0 ? NULL : list_of(by->ids, it->has_scores ? by->scores : NULL, count);
+    give_back(self, by);
+    return list;
+}
+
+static PyObject *table_find(Table *self, PyObject *const *args, Py_ssize_t count, PyObject *names)
+{
+    request it;
+    return request_of(&it, args, count, names) ? found(self, &it) : NULL;
+}
+
+static PyObject *table_nearest(Table *self, PyObject *args, PyObject *named)
+{
+    static char *names[] = {"k", "x", "y", NULL};
+    PyObject *k, *x, *y;
+    request it = {.query = rtfilter_nearest(0, 0, 0), .has_scores = true};
+    if (!PyArg_ParseTupleAndKeywords(args, named, "OOO:nearest", names, &k, &x, &y))
+        return NULL;
+    return put_limit(&it, k) && put_number(&it, x, NULL, &it.query.near_x, false) &&
+                   put_number(&it, y, NULL, &it.query.near_y, false)
+               ? found(self, &it)
+               : NULL;
+}
+
+typedef int measure(rtfilter_session *, const rtfilter_queries *, uint64_t *, size_t *);
+
+static PyObject *measured(measure *call, Table *self, const request *it)
+{
+    worker *by = take(self);
+    if (!by)
+        return NULL;
+    const rtfilter_queries queries = {&it->query, 1, it->vertices, it->query.vertices};
+    uint64_t number;
+    int code;
+    Py_BEGIN_ALLOW_THREADS
+    code = call(&by->session, &queries, &number, NULL);
+    Py_END_ALLOW_THREADS
+    give_back(self, by);
+    if (code == RTFILTER_BAD_QUERY)
+        return raise_refused(it);
+    return code == RTFILTER_OK ? PyLong_FromUnsignedLongLong(number) : failed(code);
+}
+
+/* A count has a region and layers alone. */
+static bool count_of(request *it, PyObject *const *args, Py_ssize_t count, PyObject *names)
+{
+    if (count > 1) {
+        PyErr_Format(PyExc_TypeError, "%zd arguments by place, of at most 1", count);
+        return false;
+    }
+    for (Py_ssize_t at = 0; names && at < PyTuple_Size(names); at++)
+        for (int name = ORDER; name < ARGUMENTS; name++)
+            if (name != ON && !PyUnicode_CompareWithASCIIString(PyTuple_GetItem(names, at), argument_names[name])) {
+                PyErr_Format(PyExc_TypeError, "a count has no argument %s", argument_names[name]);
+                return false;
+            }
+    return request_of(it, args, count, names);
+}
+
+static PyObject *table_count(Table *self, PyObject *const *args, Py_ssize_t count, PyObject *names)
+{
+    request it;
+    return count_of(&it, args, count, names) ? measured(rtfilter_count, self, &it) : NULL;
+}
+
+static PyObject *cost_of_find(Table *self, PyObject *const *args, Py_ssize_t count, PyObject *names)
+{
+    request it;
+    return request_of(&it, args, count, names) ? measured(rtfilter_cost_of_find, self, &it) : NULL;
+}
+
+static PyObject *cost_of_count(Table *self, PyObject *const *args, Py_ssize_t count, PyObject *names)
+{
+    request it;
+    return count_of(&it, args, count, names) ? measured(rtfilter_cost_of_count, self, &it) : NULL;
+}
+
+/* ---- Many queries, packed as the library has them */
+
+/* query_of(region's class, order, first, on): the bytes of a query whose region has no numbers yet. */
+static PyObject *query_of(PyObject *Py_UNUSED(module), PyObject *args)
+{
+    PyObject *class, *order, *first, *on;
+    request it = {.query = rtfilter_all()};
+    if (!PyArg_ParseTuple(args, "OOOO", &class, &order, &first, &on))
+        return NULL;
+    const struct kind *kind = kind_of(class, 0, ORDERS);
+    if (!kind || kind->code == RTFILTER_POLYGON)
+        return PyErr_Format(PyExc_TypeError, "%R is no region whose numbers are as many in each row", class);
+    it.query.region = kind->code;
+    it.query.order = kind->code == RTFILTER_CIRCLE ? RTFILTER_NEAR : RTFILTER_BY_ID;
+    return put_rest(&it, order, first, on) ? PyBytes_FromStringAndSize((char *)&it.query, sizeof it.query) : NULL;
+}
+
+static int64_t nanoseconds(void)
+{
+    struct timespec now;
+    clock_gettime(CLOCK_MONOTONIC, &now);
+    return (int64_t)now.tv_sec * 1000000000 + now.tv_nsec;
+}
+
+/* Queries under way, and where their answers go. */
+typedef struct {
+    rtfilter_queries left; /* those that aren't answered yet */
+    size_t skip;           /* how many answers of the first of them were taken */
+    Py_ssize_t place;      /* the place of the first of them */
+    int64_t *places, *ids;
+    rtfilter_score *scores; /* null if they aren't wanted */
+    size_t capacity, kept;
+    const double *boxes, *windows; /* by id and by place; null where nothing is filtered */
+    Py_ssize_t box_count, window_count;
+} finding;
+
+/* Whether two boxes in floats, of min_x, min_y, max_x, max_y, share a point. */
+static bool meet(const double *one, const double *other)
+{
+    return one[0] <= other[2] && other[0] <= one[2] && one[1] <= other[3] && other[1] <= one[3];
+}
+
+static bool is_kept(const finding *it, int64_t id)
+{
+    return !it->windows || (id >= 0 && id < it->box_count && it->place < it->window_count &&
+                            meet(it->boxes + 4 * id, it->windows + 4 * it->place));
+}
+
+/* Keeps answers behind those that are kept, with their places, and drops those that the filter refuses. */
+static void keep(finding *it, const rtfilter_answers *part)
+{
+    int64_t *ids = part->ids;
+    size_t at = 0, kept = it->kept;
+    for (size_t query = 0; query <= part->done; query++) {
+        const size_t end = query < part->done ? part->ends[query] : part->found;
+        for (; at < end; at++)
+            if (is_kept(it, ids[at])) {
+                it->places[kept] = it->place;
+                it->ids[kept++] = ids[at];
+            }
+        it->place += query < part->done;
+    }
+    it->kept = kept;
+}
+
+/* Answers so many queries, or those that are left: the library's code. */
+static int find_step(finding *it, worker *by, size_t step)
+{
+    size_t ends[STEP];
+    const size_t len = it->left.len < step ? it->left.len : step, room = it->capacity - it->kept;
+    rtfilter_queries some = {it->left.queries, len, NULL, 0};
+    rtfilter_answers part = {it->ids + it->kept, it->scores ? it->scores + it->kept : NULL, room, ends, 0, 0};
+    const int code = rtfilter_find(&by->session, &some, it->skip, &part);
+    keep(it, &part);
+    rtfilter_continue(&some, &it->skip, &part);
+    it->left.queries += part.done;
+    it->left.len -= part.done;
+    return code;
+}
+
+/* A step with twice as many queries takes no longer than all steps before, where queries are alike. */
+static size_t next_step(size_t step)
+{
+    return step < STEP ? 2 * step : STEP;
+}
+
+/* Answers queries until all are answered, the arrays are full, or it is time to look for a signal. */
+static int find_slice(finding *it, worker *by)
+{
+    const int64_t begun = nanoseconds();
+    int code = RTFILTER_OK;
+    for (size_t step = 1; code == RTFILTER_OK && it->left.len > 0 && nanoseconds() - begun < SLICE_NS; step = next_step(step))
+        code = find_step(it, by, step);
+    return code;
+}
+
+/* Makes room in the bytearrays of places, ids and scores, and sets where they are. */
+static bool make_room(finding *it, PyObject *places, PyObject *ids, PyObject *scores)
+{
+    const Py_ssize_t room = PyByteArray_Size(ids) / 8 - (Py_ssize_t)it->kept;
+    if (room < (Py_ssize_t)(it->kept + it->left.len + FEW) / 2) {
+        const Py_ssize_t items = 2 * (Py_ssize_t)it->kept + 32 * (Py_ssize_t)it->left.len + FEW;
+        if (PyByteArray_Resize(places, 8 * items) < 0 || PyByteArray_Resize(ids, 8 * items) < 0 ||
+            (scores != Py_None && PyByteArray_Resize(scores, 16 * items) < 0))
+            return false;
+    }
+    it->capacity = (size_t)PyByteArray_Size(ids) / 8;
+    it->places = (int64_t *)PyByteArray_AsString(places);
+    it->ids = (int64_t *)PyByteArray_AsString(ids);
+    it->scores = scores == Py_None ? NULL : (rtfilter_score *)PyByteArray_AsString(scores);
+    return true;
+}
+
+static bool find_each_by(worker *by, finding *it, PyObject *places, PyObject *ids, PyObject *scores)
+{
+    while (it->left.len > 0) {
+        int code;
+        if (!make_room(it, places, ids, scores))
+            return false;
+        Py_BEGIN_ALLOW_THREADS
+        code = find_slice(it, by);
+        Py_END_ALLOW_THREADS
+        if (code == RTFILTER_BAD_QUERY)
+            raise_query(NULL, it->place, "Q7", "minimum above maximum");
+        else if (code != RTFILTER_OK && code != RTFILTER_FULL)
+            failed(code);
+        if (PyErr_Occurred() || PyErr_CheckSignals() < 0)
+            return false;
+    }
+    return true;
+}
+
+/* _find_each(queries, place, places, ids, scores, count[, boxes, windows]): adds the answers to queries, of which the first has this
+ * place, to bytearrays, behind the first `count` answers there, and returns how many there are then. Scores may be None. With
+ * boxes by id and windows by place, in floats, the answers that don't meet are left out; there are no scores then. */
+static PyObject *find_each(Table *self, PyObject *args)
+{
+    PyObject *from[3] = {NULL}, *places, *ids, *scores;
+    Py_buffer of[3] = {0};
+    Py_ssize_t lens[3] = {-1, -1, -1}, count;
+    const Py_ssize_t sizes[3] = {sizeof(rtfilter_query), 4 * sizeof(double), 4 * sizeof(double)};
+    finding it = {0};
+    if (!PyArg_ParseTuple(args, "OnO!O!On|OO", from, &it.place, &PyByteArray_Type, &places, &PyByteArray_Type, &ids, &scores,
+                          &count, from + 1, from + 2))
+        return NULL;
+    const int wanted = from[2] ? 3 : 1;
+    int views = 0;
+    while (views < wanted && view_items(from[views], of + views, sizes[views], lens + views))
+        views++;
+    worker *by = views == wanted ? take(self) : NULL;
+    bool is_done = false;
+    if (by) {
+        it.left = (rtfilter_queries){of[0].buf, (size_t)lens[0], NULL, 0};
+        it.kept = (size_t)count;
+        it.boxes = of[1].buf;
+        it.windows = from[2] ? of[2].buf : NULL;
+        it.box_count = lens[1];
+        it.window_count = lens[2];
+        is_done = find_each_by(by, &it, places, ids, scores);
+        give_back(self, by);
+    }
+    release(of, views);
+    return is_done ? PyLong_FromSize_t(it.kept) : NULL;
+}
+
+/* Counts until all are counted, or it is time to look for a signal. */
+static int count_slice(rtfilter_queries *left, uint64_t *counts, worker *by)
+{
+    const int64_t begun = nanoseconds();
+    int code = RTFILTER_OK;
+    for (size_t step = 1; code == RTFILTER_OK && left->len > 0 && nanoseconds() - begun < SLICE_NS; step = next_step(step)) {
+        const rtfilter_queries some = {left->queries, left->len < step ? left->len : step, NULL, 0};
+        size_t done = 0;
+        code = rtfilter_count(&by->session, &some, counts, &done);
+        done = code == RTFILTER_OK ? some.len : done;
+        left->queries += done;
+        left->len -= done;
+        counts += done;
+    }
+    return code;
+}
+
+static bool count_each_by(worker *by, const rtfilter_queries *queries, Py_ssize_t place, uint64_t *counts)
+{
+    rtfilter_queries left = *queries;
+    while (left.len > 0) {
+        int code;
+        Py_BEGIN_ALLOW_THREADS
+        code = count_slice(&left, counts + (queries->len - left.len), by);
+        Py_END_ALLOW_THREADS
+        if (code == RTFILTER_BAD_QUERY)
+            raise_query(NULL, place + (Py_ssize_t)(queries->len - left.len), "Q7", "minimum above maximum");
+        else if (code != RTFILTER_OK)
+            failed(code);
+        if (PyErr_Occurred() || PyErr_CheckSignals() < 0)
+            return false;
+    }
+    return true;
+}
+
+/* _count_each(queries, place): numbers of 8 bytes, where the first query has this place. */
+static PyObject *count_each(Table *self, PyObject *args)
+{
+    PyObject *from, *all = NULL;
+    Py_buffer view;
+    Py_ssize_t len = -1, place;
+    if (!PyArg_ParseTuple(args, "On", &from, &place) || !view_items(from, &view, sizeof(rtfilter_query), &len))
+        return NULL;
+    worker *by = take(self);
+    if (by) {
+        all = PyByteArray_FromStringAndSize(NULL, len * (Py_ssize_t)sizeof(uint64_t));
+        const rtfilter_queries queries = {view.buf, (size_t)len, NULL, 0};
+        if (all && !count_each_by(by, &queries, place, (uint64_t *)PyByteArray_AsString(all)))
+            Py_CLEAR(all);
+        give_back(self, by);
+    }
+    PyBuffer_Release(&view);
+    return all;
+}
+
+/* ---- Query lines */
+
+static PyObject *reply_of(worker *by, size_t len)
+{
+    size_t copied;
+    PyObject *reply = PyBytes_FromStringAndSize(NULL, (Py_ssize_t)len);
+    if (reply)
+        rtfilter_reply(&by->session, 0, PyBytes_AsString(reply), len, &copied);
+    if (len > MANY)
+        rtfilter_forget(&by->session);
+    return reply;
+}
+
+/* _text(lines): what the program would write for these bytes. */
+static PyObject *table_text(Table *self, PyObject *lines)
+{
+    Py_buffer view;
+    PyObject *reply = NULL;
+    if (PyObject_GetBuffer(lines, &view, PyBUF_SIMPLE) < 0)
+        return NULL;
+    worker *by = take(self);
+    if (by) {
+        size_t len;
+        int code;
+        Py_BEGIN_ALLOW_THREADS
+        code = rtfilter_ask(&by->session, view.buf, (size_t)view.len, NULL, 0, &len);
+        Py_END_ALLOW_THREADS
+        reply = code == RTFILTER_OK || code == RTFILTER_FAULTY_LINE ? reply_of(by, len) : failed(code);
+        give_back(self, by);
+    }
+    PyBuffer_Release(&view);
+    return reply;
+}
+
+/* _info(): the number of boxes, the number of nodes of each level, and min_x, min_y, max_x, max_y. */
+static PyObject *table_info(Table *self, PyObject *Py_UNUSED(unused))
+{
+    rtfilter_info info;
+    memset(&info, 0, sizeof info);
+    if (rtfilter_info_of(&self->first, &info) != RTFILTER_OK) {
+        PyErr_SetString(PyExc_ValueError, "the table was closed");
+        return NULL;
+    }
+    PyObject *levels = PyTuple_New(info.levels);
+    for (uint32_t at = 0; levels && at < info.levels; at++) {
+        PyObject *size = PyLong_FromUnsignedLong(info.level_sizes[at]);
+        if (!size || PyTuple_SetItem(levels, at, size) < 0)
+            Py_CLEAR(levels);
+    }
+    return levels ? Py_BuildValue("IN(iiii)", (unsigned)info.boxes, levels, info.min_x, info.min_y, info.max_x, info.max_y) : NULL;
+}
+
+/* ---- Points in polygons */
+
+/* Polygons in whole numbers: parts that consist of rings, whose last corner is the first one again. */
+typedef struct {
+    PyObject_HEAD
+    Py_buffer of[3]; /* corners, as x and y of 32 bits; where each ring begins, and each part, and one more for the last end */
+    Py_ssize_t lens[3];
+    int views;
+} Polygons;
+
+enum { CORNERS, RINGS, PARTS, LISTS };
+
+/* Whether offsets rise and end with the last item that they may. */
+static bool are_offsets(const int64_t *offsets, Py_ssize_t count, Py_ssize_t last)
+{
+    for (Py_ssize_t at = 0; at < count; at++)
+        if (offsets[at] < (at ? offsets[at - 1] : 0) || offsets[at] > last)
+            return false;
+    return count > 0;
+}
+
+static void polygons_free(PyObject *self)
+{
+    release(((Polygons *)self)->of, ((Polygons *)self)->views);
+    free_object(self);
+}
+
+static PyObject *polygons_new(PyTypeObject *type, PyObject *args, PyObject *Py_UNUSED(named))
+{
+    PyObject *from[LISTS];
+    if (!PyArg_ParseTuple(args, "OOO", from, from + 1, from + 2))
+        return NULL;
+    Polygons *self = (Polygons *)PyType_GenericAlloc(type, 0);
+    for (int at = 0; self && at < LISTS; at++) {
+        self->lens[at] = -1;
+        if (!view_items(from[at], self->of + at, 8, self->lens + at))
+            Py_CLEAR(self);
+        else
+            self->views++;
+    }
+    if (self && (!are_offsets(self->of[RINGS].buf, self->lens[RINGS], self->lens[CORNERS]) ||
+                 !are_offsets(self->of[PARTS].buf, self->lens[PARTS], self->lens[RINGS] - 1))) {
+        Py_CLEAR(self);
+        PyErr_SetString(PyExc_ValueError, "offsets of rings or parts that don't rise");
+    }
+    return (PyObject *)self;
+}
+
+/* Whether a point is on the rings of a part, or a ray from it crosses them an odd number of times. Exact: 66 bits suffice. */
+static bool holds(const Polygons *self, int64_t part, int64_t x, int64_t y)
+{
+    __extension__ typedef __int128 wide;
+    const int32_t *corners = self->of[CORNERS].buf;
+    const int64_t *rings = self->of[RINGS].buf, *parts = self->of[PARTS].buf;
+    bool is_odd = false;
+    for (int64_t ring = parts[part]; ring < parts[part + 1]; ring++)
+        for (int64_t at = rings[ring]; at + 1 < rings[ring + 1]; at++) {
+            const int64_t ax = corners[2 * at], ay = corners[2 * at + 1], bx = corners[2 * at + 2], by = corners[2 * at + 3];
+            if ((ay > y && by > y) || (ay < y && by < y))
+                continue;
+            const wide side = (wide)(bx - ax) * (y - ay) - (wide)(by - ay) * (x - ax);
+            if (side == 0 && (ax < bx ? ax : bx) <= x && x <= (ax < bx ? bx : ax))
+                return true;
+            if ((ay > y) != (by > y) && (side > 0) == (by > ay))
+                is_odd = !is_odd;
+        }
+    return is_odd;
+}
+
+static bool is_part(const Polygons *self, int64_t part)
+{
+    if (part >= 0 && part < self->lens[PARTS] - 1)
+        return true;
+    PyErr_SetString(PyExc_IndexError, "no such part");
+    return false;
+}
+
+/* holds(part, x, y) */
+static PyObject *polygons_holds(Polygons *self, PyObject *args)
+{
+    long long part;
+    int x, y;
+    if (!PyArg_ParseTuple(args, "Lii", &part, &x, &y) || !is_part(self, part))
+        return NULL;
+    return PyBool_FromLong(holds(self, part, x, y));
+}
+
+/* holds_each(parts, points): a byte for each pair of a part, in 64 bits, and a point, as x and y of 32 bits. */
+static PyObject *polygons_holds_each(Polygons *self, PyObject *args)
+{
+    PyObject *from[2], *all = NULL;
+    Py_buffer of[2];
+    Py_ssize_t len = -1;
+    int views = 0;
+    if (!PyArg_ParseTuple(args, "OO", from, from + 1))
+        return NULL;
+    while (views < 2 && view_items(from[views], of + views, 8, &len))
+        views++;
+    const int64_t *parts = of[0].buf;
+    const int32_t *points = of[1].buf;
+    bool is_sound = views == 2;
+    for (Py_ssize_t at = 0; is_sound && at < len; at++)
+        is_sound = is_part(self, parts[at]);
+    if (is_sound && (all = PyByteArray_FromStringAndSize(NULL, len))) {
+        char *into = PyByteArray_AsString(all);
+        Py_BEGIN_ALLOW_THREADS
+        for (Py_ssize_t at = 0; at < len; at++)
+            into[at] = holds(self, parts[at], points[2 * at], points[2 * at + 1]);
+        Py_END_ALLOW_THREADS
+    }
+    release(of, views);
+    return all;
+}
+
+/* ---- The module */
+
+#define CALL(function) ((PyCFunction)(void (*)(void))(function))
+#define FAST (METH_FASTCALL | METH_KEYWORDS)
+static PyMethodDef table_methods[] = {
+    {"_open_file", CALL(open_file), METH_VARARGS | METH_CLASS, NULL},
+    {"_open_arrays", CALL(open_arrays), METH_VARARGS | METH_CLASS, NULL},
+    {"close", CALL(table_close), METH_NOARGS,
+     "close($self)\n--\n\nFrees the table. Later calls raise ValueError; calls of other threads that are under way end normally."},
+    {"find", CALL(table_find), FAST,
+     "find($self, region, order=None, first=None, *, on=None, scores=False)\n--\n\n"
+     "The ids of the boxes that a region accepts, in order, or with `scores` pairs (id, score).\n\n"
+     "`order` is Near or Smallest; without one, answers come by id, and for a circle by distance. `first` is the most answers.\n"
+     "`on` is a layer, or an iterable of layers."},
+    {"nearest", CALL(table_nearest), METH_VARARGS | METH_KEYWORDS,
+     "nearest($self, k, x, y)\n--\n\nThe k boxes nearest to a point: pairs of an id and the square of the distance."},
+    {"count", CALL(table_count), FAST, "count($self, region, *, on=None)\n--\n\nHow many boxes a region accepts."},
+    {"cost_of_find", CALL(cost_of_find), FAST,
+     "cost_of_find($self, region, order=None, first=None, *, on=None)\n--\n\nHow many nodes of the tree such a find opens."},
+    {"cost_of_count", CALL(cost_of_count), FAST,
+     "cost_of_count($self, region, *, on=None)\n--\n\nHow many nodes of the tree such a count opens."},
+    {"_find_each", CALL(find_each), METH_VARARGS, NULL},
+    {"_count_each", CALL(count_each), METH_VARARGS, NULL},
+    {"_text", CALL(table_text), METH_O, NULL},
+    {"_info", CALL(table_info), METH_NOARGS, NULL},
+    {0},
+};
+static PyType_Slot table_slots[] = {{Py_tp_methods, table_methods}, {Py_tp_dealloc, table_free}, {0}};
+static PyType_Spec table_spec = {"rtfilter._engine.Table", sizeof(Table), 0,
+                                 Py_TPFLAGS_DEFAULT | Py_TPFLAGS_BASETYPE | Py_TPFLAGS_DISALLOW_INSTANTIATION, table_slots};
+
+static PyMethodDef polygons_methods[] = {
+    {"holds", CALL(polygons_holds), METH_VARARGS, NULL},
+    {"holds_each", CALL(polygons_holds_each), METH_VARARGS, NULL},
+    {0},
+};
+static PyType_Slot polygons_slots[] = {
+    {Py_tp_methods, polygons_methods}, {Py_tp_new, polygons_new}, {Py_tp_dealloc, polygons_free}, {0}};
+static PyType_Spec polygons_spec = {"rtfilter._engine.Polygons", sizeof(Polygons), 0, Py_TPFLAGS_DEFAULT, polygons_slots};
+
+/* know(classes, TableError, QueryError): those of regions and orders, in the order of `kinds`. */
+static PyObject *know(PyObject *Py_UNUSED(module), PyObject *args)
+{
+    PyObject *classes, *one, *other;
+    if (!PyArg_ParseTuple(args, "O!OO", &PyTuple_Type, &classes, &one, &other))
+        return NULL;
+    if (PyTuple_Size(classes) != KINDS) {
+        PyErr_SetString(PyExc_ValueError, "another number of classes");
+        return NULL;
+    }
+    for (int at = 0; at < KINDS; at++) {
+        Py_XDECREF(kinds[at].class);
+        kinds[at].class = Py_NewRef(PyTuple_GetItem(classes, at));
+    }
+    Py_XDECREF(table_error);
+    Py_XDECREF(query_error);
+    table_error = Py_NewRef(one);
+    query_error = Py_NewRef(other);
+    return Py_NewRef(Py_None);
+}
+
+static PyMethodDef functions[] = {
+    {"know", know, METH_VARARGS, NULL}, {"query_of", query_of, METH_VARARGS, NULL}, {0}};
+static struct PyModuleDef definition = {PyModuleDef_HEAD_INIT, "rtfilter._engine", NULL, -1, functions, NULL, NULL, NULL, NULL};
+
+/* The members of a query that an array of queries sets: names, formats of numpy, and offsets. */
+static PyObject *layout(void)
+{
+#define MEMBER(name, format) #name, format, (Py_ssize_t)AT(name)
+    return Py_BuildValue("[(ssn)(ssn)(ssn)(ssn)(ssn)(ssn)(ssn)(ssn)(ssn)]", MEMBER(min_x, "i4"), MEMBER(max_x, "i4"),
+                         MEMBER(min_y, "i4"), MEMBER(max_y, "i4"), MEMBER(x, "i4"), MEMBER(y, "i4"), MEMBER(radius, "u4"),
+                         MEMBER(near_x, "i4"), MEMBER(near_y, "i4"));
+}
+
+static int add(PyObject *module, const char *name, PyObject *value)
+{
+    const int status = value ? PyModule_AddObjectRef(module, name, value) : -1;
+    Py_XDECREF(value);
+    return status;
+}
+
+PyMODINIT_FUNC PyInit__engine(void)
+{
+    PyObject *module = PyModule_Create(&definition);
+    if (module && (add(module, "Table", PyType_FromSpec(&table_spec)) < 0 ||
+                   add(module, "Polygons", PyType_FromSpec(&polygons_spec)) < 0 || add(module, "layout", layout()) < 0 ||
+                   PyModule_AddIntConstant(module, "query_size", sizeof(rtfilter_query)) < 0 ||
+                   PyModule_AddStringConstant(module, "version", rtfilter_version()) < 0))
+        Py_CLEAR(module);
+    return module;
+}

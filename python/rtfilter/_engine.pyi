@@ -1,0 +1,66 @@
+"""The extension, engine/_engine.c: tables in this process."""
+
+from os import PathLike
+from typing import Any, Literal, Self, overload
+
+from .regions import Layers, Order, Region
+
+version: str
+query_size: int
+layout: list[tuple[str, str, int]]
+
+class Table:
+    def close(self) -> None: ...
+    @overload
+    def find(
+        self,
+        region: Region,
+        order: Order | None = None,
+        first: int | None = None,
+        *,
+        on: Layers | None = None,
+        scores: Literal[False] = False,
+    ) -> list[int]: ...
+    @overload
+    def find(
+        self,
+        region: Region,
+        order: Order | None = None,
+        first: int | None = None,
+        *,
+        on: Layers | None = None,
+        scores: Literal[True],
+    ) -> list[tuple[int, int]]: ...
+    def nearest(self, k: int, x: int, y: int) -> list[tuple[int, int]]: ...
+    def count(self, region: Region, *, on: Layers | None = None) -> int: ...
+    def cost_of_find(
+        self, region: Region, order: Order | None = None, first: int | None = None, *, on: Layers | None = None
+    ) -> int: ...
+    def cost_of_count(self, region: Region, *, on: Layers | None = None) -> int: ...
+    @classmethod
+    def _open_file(cls, name: str | PathLike[str], header: bool, fanout: int, max_entries: int, /) -> Self: ...
+    @classmethod
+    def _open_arrays(cls, columns: tuple[Any, ...], fanout: int, max_entries: int, /) -> Self: ...
+    def _find_each(
+        self,
+        queries: Any,
+        place: int,
+        places: bytearray,
+        ids: bytearray,
+        scores: bytearray | None,
+        count: int,
+        boxes: Any = ...,
+        windows: Any = ...,
+        /,
+    ) -> int: ...
+    def _count_each(self, queries: Any, place: int, /) -> bytearray: ...
+    def _text(self, lines: Any, /) -> bytes: ...
+    def _info(self) -> tuple[int, tuple[int, ...], tuple[int, int, int, int]]: ...
+
+class Polygons:
+    def __new__(cls, corners: Any, rings: Any, parts: Any, /) -> Self: ...
+    def holds(self, part: int, x: int, y: int, /) -> bool: ...
+    def holds_each(self, parts: Any, points: Any, /) -> bytearray: ...
+
+def know(classes: tuple[type, ...], table_error: type, query_error: type, /) -> None: ...
+def query_of(region: type, order: Order | None, first: int | None, on: Layers | None, /) -> bytes: ...

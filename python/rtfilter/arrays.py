@@ -1,0 +1,154 @@
+"""Arrays and frames of numpy, pandas and geopandas: their columns, and queries packed from them.
+
+Only calls about arrays import this module, and numpy with it.
+"""
+
+from collections.abc import Iterator, Sequence
+from operator import index
+from typing import Any
+
+import numpy
+from numpy.typing import NDArray
+
+from . import _engine
+from .errors import QueryError
+from .regions import All, Circle, Covers, Inside, Layers, Near, Order, Window
+
+Columns = list[NDArray[Any]]
+
+ID, SIDES, LAYER = ("id",), ("min_x", "max_x", "min_y", "max_y"), ("layer",)
+BOUNDS = ("min_x", "min_y", "max_x", "max_y")
+POINT = ("x", "y")
+MEMBERS: dict[type, tuple[str, ...]] = {All: (), Window: SIDES, Inside: SIDES, Covers: SIDES, Circle: ("x", "y", "radius")}
+PART = 4096  # queries that are packed at once
+
+_names, _formats, _offsets = zip(*_engine.layout)
+QUERY = numpy.dtype({"names": _names, "formats": _formats, "offsets": _offsets, "itemsize": _engine.query_size})
+
+
+def is_frame(value: object) -> bool:
+    """Whether a value has columns with names, as a frame of pandas has."""
+    return hasattr(value, "columns") and hasattr(value, "itertuples")
+
+
+def columns_of(value: Any, what: str, wanted: Sequence[str], optional: Sequence[str] = ()) -> Columns:
+    """Columns of whole numbers: of an array of two dimensions, of a list of rows, or of a frame or an array with fields, by
+    their names. Raises TypeError where a number isn't whole, a column is missing or there twice, or the shape is another."""
+    names = value.columns if is_frame(value) else getattr(getattr(value, "dtype", None), "names", None)
+    if names is not None:
+        columns = [numpy.asanyarray(value[name]) for name in _found(list(names), what, wanted, optional)]
+        if any(it.ndim != 1 for it in columns):
+            raise TypeError(f"{what}: a column has one number for each row")
+        return [whole(it, what) for it in columns]
+    array = value if isinstance(value, numpy.ndarray) else _array(value, what)
+    if array.shape == (0,):
+        return [numpy.empty(0, "i8") for _ in wanted]
+    widths = sorted({len(wanted), len(wanted) + len(optional)})
+    if array.ndim != 2 or array.shape[1] not in widths:
+        raise TypeError(f"{what}: the shape is {array.shape}, and not (n, {' or '.join(map(str, widths))})")
+    return list(whole(array, what).T)
+
+
+def _array(rows: Any, what: str) -> NDArray[Any]:
+    """Rows as an array. Where numpy would make floats of whole numbers, each stays as it is."""
+    listed = list(rows)
+    try:
+        array = numpy.array(listed)
+    except ValueError:
+        raise TypeError(f"{what}: rows of different lengths") from None
+    return array if array.dtype.kind in "iu" else numpy.array(listed, dtype=object)
+
+
+def _found(names: list[Any], what: str, wanted: Sequence[str], optional: Sequence[str]) -> Iterator[Any]:
+    """The names of columns. Capital letters and underscores make no difference."""
+    for column in (*wanted, *optional):
+        found = [it for it in names if str(it).replace("_", "").lower() == column.replace("_", "")]
+        if len(found) > 1:
+            raise TypeError(f"{what}: the columns {' and '.join(map(str, found))} are both {column}")
+        if not found and column in wanted:
+            raise TypeError(f"{what}: there is no column {column} among {', '.join(map(str, names))}")
+        yield from found
+
+
+def whole(array: NDArray[Any], what: str) -> NDArray[Any]:
+    """An array of whole numbers. Raises TypeError for another type, for floats with whole values too."""
+    if isinstance(array, numpy.ma.MaskedArray) and array.mask.any():
+        raise TypeError(f"{what}: a number is masked")
+    if array.dtype.kind == "O":
+        try:
+            return numpy.array([index(it) for it in array.flat], dtype=object).reshape(array.shape)
+        except TypeError as error:
+            raise TypeError(f"{what}: {error}") from None
+    if array.dtype.kind not in "iu":
+        raise TypeError(f"{what}: numbers are whole, and not {array.dtype}")
+    return numpy.asarray(array)
+
+
+def first_beyond(columns: Columns, formats: Sequence[str]) -> tuple[int, int] | None:
+    """The first row with a number out of the range of its column's format, and the column; None where there is none."""
+    found = []
+    for at, (column, format) in enumerate(zip(columns, formats)):
+        limits = numpy.iinfo(format)
+        if len(column) and (column.min() < limits.min or column.max() > limits.max):
+            found.append((int(numpy.argmax((column < limits.min) | (column > limits.max))), at))
+    return min(found, default=None)
+
+
+def converted(columns: Columns, formats: Sequence[str]) -> Columns:
+    """Columns as contiguous arrays of these formats. Their numbers are in range."""
+    return [numpy.ascontiguousarray(column, format) for column, format in zip(columns, formats)]
+
+
+class Queries:
+    """Many queries of one kind, whose numbers are columns, packed as the library has them."""
+
+    def __init__(self, region: type, columns: Columns, order: Order | None, first: int | None, on: Layers | None) -> None:
+        self._region, self._columns = region, columns
+        self._members = MEMBERS[region]
+        self._prototype = _engine.query_of(region, order, first, on)
+        self._is_near = region is Circle and order is None  # by distance from the centre
+        self._len = len(columns[0]) if columns else 0
+
+    def parts(self) -> Iterator[tuple[int, NDArray[Any]]]:
+        """The place of the first query of each part, and the part. Raises QueryError for a number out of range, once the
+        queries before it were given."""
+        queries = numpy.frombuffer(bytearray(self._prototype * min(PART, self._len)), QUERY)
+        for begin in range(0, self._len, PART):
+            columns = [it[begin : begin + PART] for it in self._columns]
+            beyond = first_beyond(columns, [QUERY[name].str for name in self._members])
+            count = len(columns[0]) if beyond is None else beyond[0]
+            some = queries[:count]
+            for name, column in zip(self._members, columns):
+                some[name] = column[:count]
+            if self._is_near:
+                some["near_x"], some["near_y"] = some["x"], some["y"]
+            yield begin, some
+            if beyond is not None:
+                raise QueryError(self.at(begin + count), begin + count, "Q6", "out of range")
+
+    def at(self, place: int) -> object:
+        """The region at a place."""
+        return self._region(*(int(it[place]) for it in self._columns))
+
+
+class Nearest(Queries):
+    """Queries for the k boxes nearest to each of many points."""
+
+    def __init__(self, columns: Columns, k: int) -> None:
+        super().__init__(All, columns, Near(0, 0), k, None)
+        self._members = ("near_x", "near_y")
+
+    def at(self, place: int) -> object:
+        return Near(*(int(it[place]) for it in self._columns))
+
+
+def numbers_of(buffer: bytearray, format: str, count: int) -> NDArray[Any]:
+    """The first numbers in a buffer."""
+    return numpy.frombuffer(buffer, format, count)
+
+
+def scores_of(buffer: bytearray, count: int) -> NDArray[Any]:
+    """Scores as unsigned numbers of 64 bits, or as objects where one has more bits."""
+    low, high = numpy.frombuffer(buffer, "u8", 2 * count).reshape(-1, 2).T
+    scores: NDArray[Any] = low + (high.astype(object) << 64) if high.any() else low.copy()
+    return scores

@@ -1,0 +1,280 @@
+"""A table that a service holds, over a socket."""
+
+import os
+import select
+import socket
+import threading
+import time
+from collections.abc import Iterable
+from types import TracebackType
+from typing import Literal, Self, Union, overload
+
+from .errors import Disconnected, TimedOut
+from .regions import All, Layers, Order, Region, count_line, find_line, nearest_line
+from .replies import MARKER, Answers, Reply, cut, ended, is_whole, joined, listed, reason, renumbered, single
+
+Address = Union[str, "os.PathLike[str]", tuple[str, int]]
+"""Where a service listens: the path of a Unix socket, or the host and the port of a TCP socket."""
+
+PIECE = 65_536  # bytes
+PAUSE = 0.002  # seconds between two tries to connect to a service that has many waiting
+
+
+class Deadline:
+    """The end of a call, so many seconds from now; None is no end."""
+
+    def __init__(self, seconds: float | None) -> None:
+        self._seconds = seconds
+        self._until = None if seconds is None else time.monotonic() + seconds
+
+    def left(self) -> float | None:
+        """The seconds that are left. Raises TimedOut where none are."""
+        if self._until is None:
+            return None
+        left = self._until - time.monotonic()
+        if left <= 0:
+            raise TimedOut(f"no reply in {self._seconds} seconds")
+        return left
+
+
+class Connection:
+    """A connection to a service, for one call at a time."""
+
+    def __init__(self, address: Address, deadline: Deadline) -> None:
+        self._name = name_of(address)
+        self._socket = connected(address, deadline)
+        self._socket.setblocking(False)
+        self.lines = 0  # how many were sent
+
+    def is_lost(self) -> bool:
+        """Whether the service closed it, as far as is known between two calls."""
+        return bool(select.select([self._socket], [], [], 0)[0])
+
+    def exchange(self, text: bytes, lines: int, deadline: Deadline) -> bytes:
+        """The replies to a text of so many lines, of which the last one is answered."""
+        self.lines += lines
+        received, unsent = bytearray(), memoryview(text)
+        poll = select.poll()
+        while not is_whole(received, self.lines):
+            unsent = unsent[self._sent(unsent) :]
+            poll.register(self._socket, select.POLLIN | (select.POLLOUT if unsent else 0))
+            left = deadline.left()
+            for _, events in poll.poll(None if left is None else left * 1000 + 1):
+                if events & ~select.POLLOUT:
+                    received += self._received(received)
+        return bytes(received)
+
+    def _sent(self, unsent: memoryview) -> int:
+        """How many bytes were sent. All, where the service closed the connection: the next read finds out why."""
+        try:
+            return self._socket.send(unsent) if unsent else 0
+        except BlockingIOError:
+            return 0
+        except ConnectionError:
+            return len(unsent)
+
+    def _received(self, before: bytearray) -> bytes:
+        try:
+            piece = self._socket.recv(PIECE)
+        except BlockingIOError:
+            return b""
+        except ConnectionError:
+            piece = b""
+        if not piece:
+            raise Disconnected(f"the service at {self._name} closed the connection{reason(before)}")
+        return piece
+
+    def close(self) -> None:
+        self._socket.close()
+
+
+class Client:
+    """A table that a service holds. The calls are those of `Rtfilter`.
+
+    Threads may share a client, whose connection answers one call at a time. `timeout` is how many seconds a call may take,
+    with all of its waits. Whatever breaks a call off closes the connection, and the next call connects anew; so does one after
+    the service closed it. Raises OSError where there is no service, Disconnected where it closes the connection during a call,
+    TimedOut where it doesn't answer in time, and RuntimeError in a child of a fork.
+    """
+
+    def __init__(self, address: Address, timeout: float | None = None) -> None:
+        self._address, self._timeout, self._process = address, timeout, os.getpid()
+        self._lock = threading.Lock()
+        self._caller: int | None = None  # the thread that is in a call
+        self._is_closed = False
+        self._connection: Connection | None = Connection(address, Deadline(timeout))
+
+    def __enter__(self) -> Self:
+        return self
+
+    def __exit__(self, kind: type[BaseException] | None, error: BaseException | None, trace: TracebackType | None) -> None:
+        self.close()
+
+    def __reduce__(self) -> str:
+        raise TypeError("a client can't be pickled: make one in each process")
+
+    def __len__(self) -> int:
+        """How many boxes there are."""
+        return self.count(All())
+
+    def __bool__(self) -> bool:
+        return True
+
+    @overload
+    def find(
+        self,
+        region: Region,
+        order: Order | None = None,
+        first: int | None = None,
+        *,
+        on: Layers | None = None,
+        scores: Literal[False] = False,
+    ) -> list[int]: ...
+    @overload
+    def find(
+        self,
+        region: Region,
+        order: Order | None = None,
+        first: int | None = None,
+        *,
+        on: Layers | None = None,
+        scores: Literal[True],
+    ) -> list[tuple[int, int]]: ...
+    def find(
+        self,
+        region: Region,
+        order: Order | None = None,
+        first: int | None = None,
+        *,
+        on: Layers | None = None,
+        scores: bool = False,
+    ) -> list[int] | list[tuple[int, int]]:
+        """The ids of the boxes that a region accepts, in order, or with `scores` pairs (id, score)."""
+        answers = self._single(find_line(region, order, first, on))
+        return [*zip(answers.ids, answers.scores)] if scores else answers.ids
+
+    def nearest(self, k: int, x: int, y: int) -> list[tuple[int, int]]:
+        """The k boxes nearest to a point: pairs of an id and the square of the distance."""
+        answers = self._single(nearest_line(k, x, y))
+        return [*zip(answers.ids, answers.scores)]
+
+    def count(self, region: Region, *, on: Layers | None = None) -> int:
+        """How many boxes a region accepts."""
+        return self._single(count_line(region, on)).total
+
+    def cost_of_find(
+        self, region: Region, order: Order | None = None, first: int | None = None, *, on: Layers | None = None
+    ) -> int:
+        """How many nodes of the tree such a find opens."""
+        return self._single(f"cost {find_line(region, order, first, on)}").total
+
+    def cost_of_count(self, region: Region, *, on: Layers | None = None) -> int:
+        """How many nodes of the tree such a count opens."""
+        return self._single(f"cost {count_line(region, on)}").total
+
+    def levels(self) -> list[tuple[int, int]]:
+        """The levels of the tree from the top, each with how many nodes it has."""
+        answers = self._single("levels")
+        return [*zip(answers.ids, answers.scores)]
+
+    def text(self, lines: bytes) -> bytes:
+        """What the program writes for the bytes of query lines."""
+        text = ended(lines)
+        replies, before = self._exchange(text + MARKER, text.count(b"\n") + 1)
+        return renumbered(replies, before)
+
+    def replies(self, lines: Iterable[str]) -> list[Reply]:
+        """The replies to query lines, as `Rtfilter.replies` gives them."""
+        wanted = listed(lines)
+        replies, before = self._exchange(joined(wanted) + MARKER, len(wanted) + 1)
+        return cut(replies, [*wanted, ""], before + 1)[:-1]
+
+    def close(self) -> None:
+        """Closes the connection. Later calls raise ValueError."""
+        self._is_closed = True
+        if self._caller is None:
+            self._drop()
+
+    def _single(self, line: str) -> Answers:
+        replies, before = self._exchange(joined([line]), 1)
+        return single(replies, line, before + 1)
+
+    def _exchange(self, text: bytes, lines: int) -> tuple[bytes, int]:
+        """The replies to lines, and how many lines came before them on the connection."""
+        deadline = Deadline(self._timeout)
+        self._check()
+        left = deadline.left()
+        if not self._lock.acquire(timeout=-1 if left is None else left):
+            deadline.left()
+            raise TimedOut("another call took too long")
+        try:
+            self._caller = threading.get_ident()
+            connection = self._connected(deadline)
+            before = connection.lines
+            return connection.exchange(text, lines, deadline), before
+        except BaseException:
+            self._drop()
+            raise
+        finally:
+            self._caller = None
+            self._lock.release()
+            if self._is_closed:
+                self._drop()
+
+    def _check(self) -> None:
+        if os.getpid() != self._process:
+            raise RuntimeError(f"the client belongs to process {self._process}: make another one after a fork")
+        if self._is_closed:
+            raise ValueError("the client was closed")
+        if self._caller == threading.get_ident():
+            raise RuntimeError("a call in the middle of another one of the same thread")
+
+    def _connected(self, deadline: Deadline) -> Connection:
+        if self._connection is not None and self._connection.is_lost():
+            self._drop()
+        if self._connection is None:
+            self._connection = Connection(self._address, deadline)
+        return self._connection
+
+    def _drop(self) -> None:
+        connection, self._connection = self._connection, None
+        if connection is not None:
+            connection.close()
+
+
+def name_of(address: Address) -> str:
+    """An address in the text of an error."""
+    return "{}:{}".format(*address) if isinstance(address, tuple) else os.fspath(address)
+
+
+def connected(address: Address, deadline: Deadline) -> socket.socket:
+    """A socket that is connected. Raises OSError with the address."""
+    try:
+        if isinstance(address, tuple):
+            found = socket.create_connection(address, deadline.left())
+            found.setsockopt(socket.IPPROTO_TCP, socket.TCP_NODELAY, 1)
+            return found
+        return _connected_here(os.fspath(address), deadline)
+    except TimedOut:
+        raise
+    except TimeoutError:
+        raise TimedOut(f"no connection to {name_of(address)} in time") from None
+    except OSError as error:
+        error.filename = name_of(address)
+        raise
+
+
+def _connected_here(path: str, deadline: Deadline) -> socket.socket:
+    """A Unix socket that is connected. A service that has many waiting is tried again."""
+    found = socket.socket(socket.AF_UNIX)
+    try:
+        while True:
+            try:
+                found.settimeout(deadline.left())
+                found.connect(path)
+                return found
+            except BlockingIOError:
+                time.sleep(PAUSE)
+    except BaseException:
+        found.close()
+        raise

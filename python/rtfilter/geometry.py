@@ -1,0 +1,220 @@
+"""Geometries of shapely, 1.8 or 2, in a tree: shapely 2's STRtree, with answers in order, and geopandas' `sjoin`."""
+
+import warnings
+from typing import Any, Self
+
+import numpy
+import shapely
+from numpy.typing import NDArray
+
+from .floats import FloatBoxes, Floats, Places, rows_of, widened
+
+IS_TWO = shapely.__version__ >= "2"
+MIRRORED = {  # predicate(a, b) is MIRRORED[predicate](b, a)
+    "contains": "within",
+    "within": "contains",
+    "covers": "covered_by",
+    "covered_by": "covers",
+    "crosses": "crosses",
+    "intersects": "intersects",
+    "overlaps": "overlaps",
+    "touches": "touches",
+}
+BY_INPUT = "contains", "covers"  # predicates for which the geometry of the query is prepared, and not that of the tree
+DWITHIN = "dwithin"
+PROBES = 4  # boxes close to a geometry, whose distances bound that of the nearest one
+
+Objects = NDArray[Any]
+
+
+class STRtree:
+    """Geometries, found by their places. None and empty ones are never found.
+
+    `geometries` are a frame or a series of geopandas, an array or a list. Raises ValueError for infinite bounds.
+    """
+
+    def __init__(self, geometries: Any) -> None:
+        self.geometries: Objects | None = objects(geometries)
+        self._boxes = FloatBoxes(rows_of(bounds_of(self.geometries), "geometries"))
+
+    @classmethod
+    def from_bounds(cls, bounds: Any) -> Self:
+        """A tree of rows (min_x, min_y, max_x, max_y) alone, for `query_bounds` and `query` without a predicate."""
+        tree = cls.__new__(cls)
+        tree.geometries = None
+        tree._boxes = FloatBoxes(rows_of(bounds, "bounds"))
+        return tree
+
+    def __reduce__(self) -> Any:
+        if self.geometries is None:
+            return STRtree.from_bounds, (self._boxes.bounds,)
+        return STRtree, (self.geometries,)
+
+    def __len__(self) -> int:
+        """How many geometries there are that can be found."""
+        return len(self._boxes.table)
+
+    def query_bounds(self, bounds: Any) -> Places:
+        """The places of the geometries whose bounds overlap (min_x, min_y, max_x, max_y). Of rows of bounds, an array of two
+        rows: the places of bounds, and of geometries."""
+        array = numpy.asarray(bounds, "f8")
+        if array.shape == (4,):
+            return self._boxes.meeting(rows_of(array[None], "bounds"))[1]
+        return numpy.stack(self._boxes.meeting(rows_of(array, "bounds")))
+
+    def query(self, geometry: Any, predicate: str | None = None, distance: Any = None) -> Places:
+        """The places of the geometries for which predicate(geometry, it) holds; without a predicate, of those whose bounds
+        overlap. Of many geometries, an array of two rows: their places, and those of geometries in the tree.
+
+        Predicates are those of shapely: contains, covered_by, covers, crosses, intersects, overlaps, touches, within; and
+        dwithin, for which `distance` is a number, or one for each geometry.
+        """
+        if predicate not in (None, DWITHIN, *MIRRORED):
+            raise ValueError(f"{predicate!r} is no predicate; there are {', '.join(sorted([DWITHIN, *MIRRORED]))}")
+        if (predicate == DWITHIN) != (distance is not None):
+            raise ValueError("a distance goes with the predicate dwithin")
+        is_single, inputs = inputs_of(geometry)
+        bounds = rows_of(bounds_of(inputs), "geometries")
+        if predicate is None:
+            pairs = self._boxes.meeting(bounds)
+        elif predicate == DWITHIN:
+            pairs = self._within(inputs, bounds, numpy.broadcast_to(numpy.asarray(distance, "f8"), len(inputs)))
+        else:
+            pairs = self._kept(inputs, predicate, self._boxes.meeting(bounds, is_exact=False))
+        return pairs[1] if is_single else numpy.stack(pairs)
+
+    def query_nearest(
+        self, geometry: Any, max_distance: float | None = None, return_distance: bool = False, all_matches: bool = True
+    ) -> Any:
+        """The places of the geometries nearest to one, all that are equally near, or with `all_matches` False the first of
+        them. Of many geometries, an array of two rows. With `return_distance`, the distances too."""
+        if max_distance is not None and not max_distance > 0:
+            raise ValueError("max_distance is above 0")
+        is_single, inputs = inputs_of(geometry)
+        bounds = rows_of(bounds_of(inputs), "geometries")
+        reach = self._reach(inputs, bounds, numpy.inf if max_distance is None else max_distance)
+        places, ids = self._boxes.meeting(widened(bounds, reach), is_exact=False)
+        found = distances_of(inputs[places], self._geometries()[ids])
+        least = numpy.full(len(inputs), numpy.inf)
+        numpy.minimum.at(least, places, found)
+        kept = (found == least[places]) & (found <= reach[places])
+        places, ids, found = places[kept], ids[kept], found[kept]
+        if not all_matches:
+            _, firsts = numpy.unique(places, return_index=True)
+            places, ids, found = places[firsts], ids[firsts], found[firsts]
+        pairs = ids if is_single else numpy.stack([places, ids])
+        return (pairs, found) if return_distance else pairs
+
+    def _geometries(self) -> Objects:
+        if self.geometries is None:
+            raise ValueError("the tree was made of bounds, and has no geometries")
+        return self.geometries
+
+    def _kept(self, inputs: Objects, predicate: str, pairs: tuple[Places, Places]) -> tuple[Places, Places]:
+        """The pairs for which a predicate holds."""
+        places, ids = pairs
+        kept = are_so(predicate, inputs[places], self._geometries()[ids])
+        return places[kept], ids[kept]
+
+    def _within(self, inputs: Objects, bounds: Floats, distance: Floats) -> tuple[Places, Places]:
+        """The pairs that are at most so far apart."""
+        places, ids = self._boxes.meeting(widened(bounds, numpy.maximum(distance, 0)), is_exact=False)
+        kept = distances_of(inputs[places], self._geometries()[ids]) <= distance[places]
+        return places[kept], ids[kept]
+
+    def _reach(self, inputs: Objects, bounds: Floats, most: float) -> Floats:
+        """For each geometry a distance within which its nearest one is, or else `most`."""
+        reach = numpy.full(len(inputs), most)
+        places, ids = self._boxes.close_to(bounds, PROBES)
+        numpy.minimum.at(reach, places, distances_of(inputs[places], self._geometries()[ids]))
+        return reach
+
+
+def objects(geometries: Any) -> Objects:
+    """Geometries as an array of objects."""
+    listed = list(getattr(geometries, "geometry", geometries))
+    found = numpy.empty(len(listed), object)
+    for at, it in enumerate(listed):
+        found[at] = it
+    return found
+
+
+def inputs_of(geometry: Any) -> tuple[bool, Objects]:
+    """Whether it is a single geometry, and it or all of them as an array."""
+    is_single = geometry is None or (hasattr(geometry, "geom_type") and not hasattr(geometry, "index"))
+    return is_single, objects([geometry] if is_single else geometry)
+
+
+def bounds_of(geometries: Objects) -> Any:
+    """Rows of min_x, min_y, max_x, max_y; NaN for None and for an empty geometry."""
+    if IS_TWO:
+        return shapely.bounds(geometries)
+    nothing = (numpy.nan,) * 4
+    return [nothing if it is None or it.is_empty else it.bounds for it in geometries]
+
+
+def distances_of(some: Objects, others: Objects) -> Floats:
+    """The distance of each pair."""
+    if IS_TWO:
+        return numpy.asarray(shapely.distance(some, others), "f8")
+    return numpy.array([one.distance(other) for one, other in zip(some, others)], "f8")
+
+
+def are_so(predicate: str, inputs: Objects, geometries: Objects) -> NDArray[numpy.bool_]:
+    """Whether predicate(input, geometry), for each pair."""
+    name, some, others = predicate, inputs, geometries
+    if predicate not in BY_INPUT:
+        name, some, others = MIRRORED[predicate], geometries, inputs
+    if IS_TWO:
+        shapely.prepare(some)
+        return numpy.asarray(getattr(shapely, name)(some, others), bool)
+    from shapely.prepared import prep
+
+    prepared: dict[int, Any] = {}
+    found = numpy.empty(len(some), bool)
+    for at, (one, other) in enumerate(zip(some, others)):
+        if id(one) not in prepared:
+            prepared[id(one)] = prep(one)
+        found[at] = getattr(prepared[id(one)], name)(other)
+    return found
+
+
+def sjoin(left: Any, right: Any, how: str = "inner", predicate: str = "intersects") -> Any:
+    """Joins two frames by their geometries, as geopandas' `sjoin` does; by the rows of `left` and then of `right`, or with `how`
+    "right" the other way round."""
+    if how not in ("inner", "left", "right"):
+        raise ValueError(f"how is inner, left or right, and not {how!r}")
+    if left.crs != right.crs:
+        warnings.warn(f"the frames have different CRS: {left.crs} and {right.crs}", stacklevel=2)
+    lefts, rights = STRtree(right).query(left.geometry, predicate)
+    if how == "right":
+        order = numpy.lexsort([lefts, rights])
+        return _joined(right, left, rights[order], lefts[order], True, ("right", "left"))
+    return _joined(left, right, lefts, rights, how == "left", ("left", "right"))
+
+
+def _joined(kept: Any, other: Any, places: Places, others: Places, has_all: bool, names: tuple[str, str]) -> Any:
+    """The rows of one frame at these places, beside those of the other one, whose geometries are dropped. With all, rows of
+    the first without a match are there too, in their places."""
+    import pandas
+
+    if has_all:
+        alone = numpy.setdiff1d(numpy.arange(len(kept)), places)
+        places, others = numpy.concatenate([places, alone]), numpy.concatenate([others, numpy.full(len(alone), -1)])
+        order = numpy.argsort(places, kind="stable")
+        places, others = places[order], others[order]
+    frame, rest = kept.take(places), other.drop(columns=other.geometry.name)
+    rest = rest.reset_index(names=f"index_{names[1]}").reindex(pandas.RangeIndex(len(rest)))
+    rest = rest.reindex(others) if (others < 0).any() else rest.take(others)
+    rest.index = frame.index
+    shared = [it for it in rest if it in frame]
+    frame = frame.rename(columns={it: f"{it}_{names[0]}" for it in shared})
+    rest = rest.rename(columns={it: f"{it}_{names[1]}" for it in shared})
+    return frame.join(rest) if frame.index.is_unique else _beside(frame, rest)
+
+
+def _beside(frame: Any, rest: Any) -> Any:
+    """A frame with the columns of another one that has the same rows."""
+    for name in rest:
+        frame[name] = rest[name].to_numpy()
+    return frame

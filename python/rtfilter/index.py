@@ -1,0 +1,78 @@
+"""The part of rtree's `Index` that a table which doesn't change can have."""
+
+from collections.abc import Iterable, Iterator, Sequence
+from operator import index, itemgetter
+from typing import Any
+
+import numpy
+
+from .floats import FloatBoxes, Floats, rows_of
+
+
+class Index:
+    """Boxes that are loaded at once and queried as those of rtree's `Index` are. Ids come in order, the least first.
+
+    `stream` has an item for each box: its id, its coordinates, and whatever else, which is ignored. Coordinates are decimals:
+    min_x, min_y, max_x, max_y where `interleaved`, else min_x, max_x, min_y, max_y; two are a point. Raises ValueError for
+    infinite or turned coordinates, and for an id that is there twice.
+    """
+
+    def __init__(self, stream: Iterable[Sequence[Any]] = (), interleaved: bool = True) -> None:
+        self.interleaved = interleaved
+        items = [(index(item[0]), self._sides(item[1])) for item in stream]
+        items.sort(key=itemgetter(0))
+        self._ids = numpy.array([id for id, _ in items], "i8")
+        if (self._ids[1:] == self._ids[:-1]).any():
+            raise ValueError("an id is there twice")
+        self._boxes = FloatBoxes(rows_of([sides for _, sides in items], "stream"))
+
+    def _sides(self, coordinates: Sequence[float]) -> tuple[float, ...]:
+        """min_x, min_y, max_x, max_y"""
+        if len(coordinates) == 2:
+            x, y = coordinates
+            return x, y, x, y
+        first, second, third, fourth = coordinates
+        return (first, second, third, fourth) if self.interleaved else (first, third, second, fourth)
+
+    def _bounds(self, coordinates: Sequence[float]) -> Floats:
+        bounds = rows_of([self._sides(coordinates)], "coordinates")
+        if numpy.isnan(bounds).any():
+            raise ValueError("a coordinate is no number")
+        return bounds
+
+    def intersection(self, coordinates: Sequence[float]) -> Iterator[int]:
+        """The ids of the boxes that overlap a window."""
+        return iter(self._ids[self._boxes.meeting(self._bounds(coordinates))[1]].tolist())
+
+    def contains(self, coordinates: Sequence[float]) -> Iterator[int]:
+        """The ids of the boxes that lie in a window."""
+        window = self._bounds(coordinates)
+        _, places = self._boxes.meeting(window)
+        boxes = self._boxes.bounds[places]
+        is_inside = (boxes[:, :2] >= window[:, :2]).all(axis=1) & (boxes[:, 2:] <= window[:, 2:]).all(axis=1)
+        return iter(self._ids[places[is_inside]].tolist())
+
+    def count(self, coordinates: Sequence[float]) -> int:
+        """How many boxes overlap a window."""
+        return len(self._boxes.meeting(self._bounds(coordinates))[1])
+
+    def nearest(self, coordinates: Sequence[float], num_results: int = 1) -> Iterator[int]:
+        """The ids of the boxes nearest to a window, by distance and then id, and of all that are as near as the last one."""
+        if num_results < 1:
+            raise ValueError("num_results is 1 or more")
+        return iter(self._ids[self._boxes.nearest(self._bounds(coordinates), num_results)].tolist())
+
+    @property
+    def bounds(self) -> list[float]:
+        """The least box around all, in the order of the coordinates; infinite, and turned, for none."""
+        boxes = self._boxes.bounds
+        low = boxes[:, :2].min(0, initial=numpy.inf).tolist()
+        high = boxes[:, 2:].max(0, initial=-numpy.inf).tolist()
+        return [*low, *high] if self.interleaved else [low[0], high[0], low[1], high[1]]
+
+    def __len__(self) -> int:
+        return len(self._ids)
+
+    def close(self) -> None:
+        """Frees the boxes."""
+        self._boxes.table.close()

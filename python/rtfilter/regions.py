@@ -1,0 +1,181 @@
+"""Regions and orders as named tuples, and query lines made of them.
+
+Numbers are whole, in the unit of the table; they are checked when a query is made. Regions are closed: what touches overlaps.
+`str` of a region or an order is its words in the query language.
+"""
+
+from collections.abc import Iterable
+from operator import index
+from typing import Any, NamedTuple, Self, Union
+
+LAYER_COUNT = 64
+
+
+class _OwnKind(tuple[Any, ...]):
+    """Makes a tuple equal to those of its own class alone."""
+
+    __slots__ = ()
+
+    def __eq__(self, other: object) -> bool:
+        return type(self) is type(other) and tuple.__eq__(self, other)
+
+    def __ne__(self, other: object) -> bool:
+        return not self == other
+
+    def __hash__(self) -> int:
+        return tuple.__hash__(self)
+
+
+class _Nothing(NamedTuple):
+    pass
+
+
+class _Sides(NamedTuple):
+    min_x: int
+    max_x: int
+    min_y: int
+    max_y: int
+
+
+class _Disc(NamedTuple):
+    x: int
+    y: int
+    radius: int
+
+
+class _Point(NamedTuple):
+    x: int
+    y: int
+
+
+class _Vertices(NamedTuple):
+    vertices: tuple[tuple[int, int], ...]
+
+
+class _Box(_OwnKind, _Sides):
+    __slots__ = ()
+
+    @classmethod
+    def from_bounds(cls, bounds: Iterable[int]) -> Self:
+        """The same from (min_x, min_y, max_x, max_y): the order of shapely's `bounds`, of GeoJSON's `bbox` and of rtree."""
+        min_x, min_y, max_x, max_y = bounds
+        return cls(min_x, max_x, min_y, max_y)
+
+    def __str__(self) -> str:
+        return " ".join([type(self).__name__.lower(), *(str(index(it)) for it in self)])
+
+
+class All(_OwnKind, _Nothing):
+    """Every box."""
+
+    __slots__ = ()
+
+    def __str__(self) -> str:
+        return "all"
+
+
+class Window(_Box):
+    """The boxes that overlap a window."""
+
+    __slots__ = ()
+
+
+class Inside(_Box):
+    """The boxes that lie within a window."""
+
+    __slots__ = ()
+
+
+class Covers(_Box):
+    """The boxes within which a window lies."""
+
+    __slots__ = ()
+
+
+class Circle(_OwnKind, _Disc):
+    """The boxes with a point at most `radius` away from (x, y). Without another order, the nearest come first."""
+
+    __slots__ = ()
+
+    def __str__(self) -> str:
+        return f"circle {index(self.x)} {index(self.y)} {index(self.radius)}"
+
+
+class Polygon(_OwnKind, _Vertices):
+    """The boxes that overlap a strictly convex polygon of 3 to 16 vertices, pairs (x, y) in order round it."""
+
+    __slots__ = ()
+
+    def __new__(cls, vertices: Iterable[tuple[int, int]]) -> Self:
+        return super().__new__(cls, tuple((x, y) for x, y in vertices))
+
+    def __str__(self) -> str:
+        return " ".join([f"polygon {len(self.vertices)}", *(f"{index(x)} {index(y)}" for x, y in self.vertices)])
+
+
+class Near(_OwnKind, _Point):
+    """Orders boxes by the square of their distance from (x, y)."""
+
+    __slots__ = ()
+
+    def __str__(self) -> str:
+        return f"near {index(self.x)} {index(self.y)}"
+
+
+class Smallest(_OwnKind, _Nothing):
+    """Orders boxes by their area."""
+
+    __slots__ = ()
+
+    def __str__(self) -> str:
+        return "smallest"
+
+
+Region = Union[All, Window, Inside, Covers, Circle, Polygon]
+Order = Union[Near, Smallest]
+Layers = Union[int, Iterable[int]]
+"""A layer, or some of them."""
+
+CLASSES = All, Window, Inside, Covers, Circle, Polygon, Near, Smallest
+ORDERS = Near, Smallest
+
+
+def find_line(region: Region, order: Order | None, first: int | None, on: Layers | None) -> str:
+    """The query line of a find."""
+    words = ["find", str(_checked(region, "region")), *_on(on)]
+    words += [str(_checked(order, "order"))] if order is not None else []
+    words += [f"first {index(first)}"] if first is not None else []
+    return " ".join(words)
+
+
+def count_line(region: Region, on: Layers | None) -> str:
+    """The query line of a count."""
+    return " ".join(["count", str(_checked(region, "region")), *_on(on)])
+
+
+def nearest_line(k: int, x: int, y: int) -> str:
+    """The query line of the k nearest."""
+    return f"nearest {index(k)} {index(x)} {index(y)}"
+
+
+def _checked(value: Region | Order, kind: str) -> Region | Order:
+    if not isinstance(value, CLASSES) or isinstance(value, ORDERS) != (kind == "order"):
+        raise TypeError(f"{value!r} is no {kind}")
+    return value
+
+
+def _on(on: Layers | None) -> list[str]:
+    """The words of a list of layers."""
+    if on is None:
+        return []
+    if isinstance(on, (str, bytes)):
+        raise TypeError(f"layers are whole numbers, and not {on!r}")
+    layers = [*on] if isinstance(on, Iterable) else [on]
+    for layer in layers:
+        if isinstance(layer, bool):
+            raise TypeError(f"a layer is a whole number, and not {layer}")
+        if not 0 <= index(layer) < LAYER_COUNT:
+            raise ValueError(f"a layer is 0 to {LAYER_COUNT - 1}, and not {layer}")
+    if not layers:
+        raise ValueError("no layer is given; None stands for all layers")
+    return ["on", ",".join(str(index(it)) for it in layers)]

@@ -1,0 +1,92 @@
+"""Query lines and the replies to them, as text."""
+
+import os
+import re
+from collections.abc import Iterable
+from typing import NamedTuple, Union
+
+from .errors import QueryError
+
+LAST_LINE = re.compile(rb"(ok|error) (\d+) ([^\n]*)\n")  # of a reply; no answer before it holds a letter
+
+
+class Answers(NamedTuple):
+    """The reply to a query line: ids and scores in order, and the number in its last line: of a `count` line what was counted,
+    of a `cost` line the nodes, else how many answers there are."""
+
+    ids: list[int]
+    scores: list[int]
+    total: int
+
+
+Reply = Union[Answers, QueryError, None]
+"""The reply to one line; None for a blank one and a comment, which have none."""
+
+
+def listed(lines: Iterable[str]) -> list[str]:
+    """Query lines as a list. Raises TypeError for one text in place of lines, ValueError for a line that holds a line feed."""
+    if isinstance(lines, (str, bytes)):
+        raise TypeError("lines are an iterable of texts, and not one text")
+    found = list(lines)
+    for line in found:
+        if not isinstance(line, str):
+            raise TypeError(f"a line is a text, and not {line!r:.200}")
+        if "\n" in line:
+            raise ValueError(f"a line that holds a line feed: {line!r:.200}")
+    return found
+
+
+def joined(lines: list[str]) -> bytes:
+    """The bytes of query lines."""
+    return b"".join(os.fsencode(line) + b"\n" for line in lines)
+
+
+def cut(text: bytes, lines: list[str], first: int = 1) -> list[Reply]:
+    """The reply to each of these lines, of which the first has this number. Lines without one were skipped."""
+    replies: list[Reply] = [None] * len(lines)
+    parts = LAST_LINE.split(text)
+    for answers, kind, number, rest in zip(parts[0::4], parts[1::4], parts[2::4], parts[3::4]):
+        at = int(number) - first
+        if kind == b"ok":
+            numbers = [*map(int, answers.split())]
+            replies[at] = Answers(numbers[0::2], numbers[1::2], int(rest))
+        else:
+            code, _, words = rest.decode().partition(" ")
+            replies[at] = QueryError(lines[at], None, code, words)
+    return replies
+
+
+MARKER = b"find all first 0\n"
+"""A line that is always answered, by one line: it ends lines of which the last may be skipped."""
+
+
+def single(text: bytes, line: str, number: int) -> Answers:
+    """The reply to one line that has this number. Raises its fault."""
+    reply = cut(text, [line], number)[0]
+    if isinstance(reply, QueryError):
+        raise reply
+    assert reply is not None  # the line isn't blank
+    return reply
+
+
+def ended(lines: bytes) -> bytes:
+    """Lines of which the last one ends with a line feed too."""
+    return lines if not lines or lines.endswith(b"\n") else lines + b"\n"
+
+
+def renumbered(text: bytes, before: int) -> bytes:
+    """Replies whose lines are numbered from 1, in place of from behind so many; that to the marker is dropped."""
+    text = text[: text.rstrip(b"\n").rfind(b"\n") + 1]
+    return LAST_LINE.sub(lambda found: b"%b %d %b\n" % (found[1], int(found[2]) - before, found[3]), text)
+
+
+def is_whole(text: bytes | bytearray, last: int) -> bool:
+    """Whether a text ends with the reply to the line that has this number."""
+    begin = text.rfind(b"\n", 0, -1) + 1
+    return text.endswith(b"\n") and text.startswith((b"ok %d " % last, b"error %d " % last), begin)
+
+
+def reason(text: bytes | bytearray) -> str:
+    """Why a service closed a connection, where its last line says so."""
+    _, prefix, words = bytes(text).rpartition(b"rtfilter-serve: ")
+    return f": {words.decode(errors='replace').strip()}" if prefix else ""

@@ -1,0 +1,231 @@
+"""A table of boxes in this process."""
+
+import os
+from array import array
+from collections.abc import Iterable
+from types import TracebackType
+from typing import TYPE_CHECKING, Any, NoReturn, Self
+
+from . import _engine
+from .errors import FIELD_COUNT, OUT_OF_RANGE, QueryError, TableError
+from .regions import CLASSES, Layers, Order, Window
+from .replies import Reply, cut, joined, listed
+
+if TYPE_CHECKING:
+    from numpy.typing import NDArray
+
+    from .arrays import Columns, Queries
+
+_engine.know(CLASSES, TableError, QueryError)
+
+FIELDS = ("id", "min_x", "max_x", "min_y", "max_y", "layer")
+FORMATS = ("i8", "i4", "i4", "i4", "i4", "u1")  # as numpy names them
+CODES = "qiiiiB"  # as the module array does
+MOST_ENTRIES = 16_777_216
+
+
+class Rtfilter(_engine.Table):
+    """A table of boxes, which any number of threads may query at the same time.
+
+    `table` is the name of a CSV file; rows of (id, min_x, max_x, min_y, max_y) or of these and a layer; an array of shape
+    (n, 5) or (n, 6); or a frame, or an array with fields, that has these columns. Raises TableError for a faulty table, OSError
+    for a file that can't be read, TypeError where a number isn't whole, and ValueError for a setting out of range.
+    """
+
+    def __new__(cls, table: Any, *, header: bool = False, fanout: int = 16, max_entries: int = MOST_ENTRIES) -> Self:
+        if isinstance(table, (str, os.PathLike)):
+            return cls._open_file(table, header, fanout, max_entries)
+        if header:
+            raise ValueError("only a CSV file has a header")
+        if hasattr(table, "dtype") or hasattr(table, "columns"):
+            from . import arrays
+
+            columns = arrays.columns_of(table, "the table", FIELDS[:5], FIELDS[5:])
+            return cls._open_columns(columns, fanout, max_entries)
+        return cls._open_rows(table, fanout, max_entries)
+
+    @classmethod
+    def from_bounds(
+        cls, bounds: Any, *, ids: Any = None, layers: Any = None, fanout: int = 16, max_entries: int = MOST_ENTRIES
+    ) -> Self:
+        """A table of rows (min_x, min_y, max_x, max_y), the order of shapely's `bounds`: an array of shape (n, 4), a frame with
+        these columns, or a list. Without `ids`, the id of a box is its place, from 0."""
+        import numpy
+
+        from . import arrays
+
+        min_x, min_y, max_x, max_y = arrays.columns_of(bounds, "bounds", arrays.BOUNDS)
+        columns = [numpy.arange(len(min_x)) if ids is None else _column(ids, "ids", len(min_x)), min_x, max_x, min_y, max_y]
+        if layers is not None:
+            columns.append(_column(layers, "layers", len(min_x)))
+        return cls._open_columns(columns, fanout, max_entries)
+
+    @classmethod
+    def _open_columns(cls, columns: "Columns", fanout: int, max_entries: int) -> Self:
+        from . import arrays
+
+        beyond = arrays.first_beyond(columns, FORMATS)
+        sound = columns if beyond is None else [it[: beyond[0]] for it in columns]
+        given = arrays.converted(sound, FORMATS)
+        if beyond is not None:
+            cls._refuse(given, beyond[0] + 1, beyond[1] + 1, fanout, max_entries)
+        return cls._open_arrays(tuple([*given, None][:6]), fanout, max_entries)
+
+    @classmethod
+    def _refuse(cls, before: Iterable[Any], record: int, field: int, fanout: int, max_entries: int) -> NoReturn:
+        """Raises the first fault of a table: that of the boxes before a record, or that a number of the record is out of range."""
+        try:
+            cls._open_arrays(tuple([*before, None][:6]), fanout, max_entries).close()
+        except TableError as error:
+            if error.kind != 6:  # ids are compared once all records are read
+                raise
+        raise TableError(OUT_OF_RANGE, record, field)
+
+    @classmethod
+    def _open_rows(cls, rows: Iterable[Any], fanout: int, max_entries: int) -> Self:
+        columns = [array(code) for code in CODES]
+        for record, row in enumerate(rows, 1):
+            fields = tuple(row)
+            if len(fields) not in (5, 6):
+                raise TableError(FIELD_COUNT, record, len(fields))
+            for at, (column, number) in enumerate(zip(columns, fields if len(fields) == 6 else (*fields, 0))):
+                try:
+                    column.append(number)
+                except OverflowError:
+                    cls._refuse((it[: record - 1] for it in columns), record, at + 1, fanout, max_entries)
+                except TypeError:
+                    raise TypeError(f"row {record - 1}: {FIELDS[at]} is a whole number, and not {number!r}") from None
+        return cls._open_arrays(tuple(columns), fanout, max_entries)
+
+    def __enter__(self) -> Self:
+        return self
+
+    def __exit__(self, kind: type[BaseException] | None, error: BaseException | None, trace: TracebackType | None) -> None:
+        self.close()
+
+    def __reduce__(self) -> Any:
+        raise TypeError("a table can't be pickled: open it in each process, or fork")
+
+    def __len__(self) -> int:
+        """How many boxes there are."""
+        return self._info()[0]
+
+    def __bool__(self) -> bool:
+        return True
+
+    def levels(self) -> list[tuple[int, int]]:
+        """The levels of the tree from the top, each with how many nodes it has; level 0 is that of the boxes."""
+        return [*reversed([*enumerate(self._info()[1])])]
+
+    @property
+    def bounds(self) -> tuple[int, int, int, int] | None:
+        """The least box around all boxes, as min_x, min_y, max_x, max_y; None where there are none."""
+        boxes, _, bounds = self._info()
+        return bounds if boxes else None
+
+    def text(self, lines: bytes) -> bytes:
+        """What the program writes for the bytes of query lines. The call runs to its end, whatever signals come."""
+        return self._text(lines)
+
+    def replies(self, lines: Iterable[str]) -> list[Reply]:
+        """The replies to query lines: Answers, a QueryError for a faulty line, None for a blank one and a comment."""
+        wanted = listed(lines)
+        return cut(self._text(joined(wanted)), wanted)
+
+    def find_each(
+        self,
+        windows: Any = None,
+        *,
+        bounds: Any = None,
+        region: type = Window,
+        order: Order | None = None,
+        first: int | None = None,
+        on: Layers | None = None,
+    ) -> "tuple[NDArray[Any], NDArray[Any]]":
+        """The places of many windows, from 0, and the ids of the boxes that each accepts, as two arrays.
+
+        `windows` are rows of the numbers of a region, `bounds` in their place rows of min_x, min_y, max_x, max_y: an array, a
+        frame with columns of these names, or a list. `region` is any of the classes but Polygon.
+        """
+        places, ids, _ = self._found(_queries(windows, bounds, region, order, first, on), False)
+        return places, ids
+
+    def nearest_each(self, points: Any, k: int) -> "tuple[NDArray[Any], NDArray[Any], NDArray[Any]]":
+        """The places of many points, rows of x and y, the ids of the k boxes nearest to each, and the squares of their
+        distances, as three arrays."""
+        from . import arrays
+
+        columns = arrays.columns_of(points, "points", arrays.POINT)
+        return self._found(arrays.Nearest(columns, k), True)
+
+    def count_each(
+        self, windows: Any = None, *, bounds: Any = None, region: type = Window, on: Layers | None = None
+    ) -> "NDArray[Any]":
+        """How many boxes each of many windows accepts, as an array. The arguments are those of `find_each`."""
+        import numpy
+
+        from . import arrays
+
+        queries = _queries(windows, bounds, region, None, None, on)
+        counts = [numpy.empty(0, "u8")]
+        for place, part in queries.parts():
+            with _named(queries):
+                buffer = self._count_each(part, place)
+            counts.append(arrays.numbers_of(buffer, "u8", len(part)))
+        return numpy.concatenate(counts)
+
+    def _found(self, queries: "Queries", has_scores: bool, exact: tuple[Any, ...] = ()) -> tuple[Any, Any, Any]:
+        """Places, ids and perhaps scores. With `exact`, boxes and windows in floats, answers that don't meet are left out."""
+        from . import arrays
+
+        places, ids, scores = bytearray(), bytearray(), bytearray() if has_scores else None
+        count = 0
+        for place, part in queries.parts():
+            with _named(queries):
+                count = self._find_each(part, place, places, ids, scores, count, *exact)
+        numbers = arrays.numbers_of(places, "i8", count), arrays.numbers_of(ids, "i8", count)
+        return *numbers, None if scores is None else arrays.scores_of(scores, count)
+
+
+class _named:
+    """Gives a QueryError of the extension the region at its place."""
+
+    def __init__(self, queries: "Queries") -> None:
+        self._queries = queries
+
+    def __enter__(self) -> None:
+        pass
+
+    def __exit__(self, kind: type[BaseException] | None, error: BaseException | None, trace: TracebackType | None) -> None:
+        if isinstance(error, QueryError) and error.place is not None:
+            raise QueryError(self._queries.at(error.place), error.place, error.code, error.text) from None
+
+
+def _queries(windows: Any, bounds: Any, region: type, order: Order | None, first: int | None, on: Layers | None) -> "Queries":
+    from . import arrays
+
+    if (windows is None) == (bounds is None):
+        raise TypeError("either windows or bounds")
+    members = arrays.MEMBERS.get(region)
+    if members is None:
+        raise TypeError(f"{region!r} is no region whose numbers are as many in each row")
+    if bounds is None:
+        columns = arrays.columns_of(windows, "windows", members)
+    elif members is not arrays.SIDES:
+        raise TypeError(f"{region.__name__} has no bounds")
+    else:
+        min_x, min_y, max_x, max_y = arrays.columns_of(bounds, "bounds", arrays.BOUNDS)
+        columns = [min_x, max_x, min_y, max_y]
+    return arrays.Queries(region, columns, order, first, on)
+
+
+def _column(values: Any, what: str, count: int) -> "NDArray[Any]":
+    """A column of whole numbers, as many as there are boxes."""
+    import numpy
+
+    from . import arrays
+
+    column = numpy.asanyarray(values)
+    if column.shape != (count,):
+        raise TypeError(f"{what}: the shape is {column.shape}, and not ({count},)")
+    return arrays.whole(column, what) if count else numpy.empty(0, "i8")

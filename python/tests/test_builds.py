@@ -1,0 +1,81 @@
+"""One build for every later Python, and no fault of memory."""
+
+import os
+import shutil
+import subprocess
+import sys
+from collections.abc import Iterator
+from pathlib import Path
+
+import pytest
+from conftest import ROOT
+
+PACKAGE, EXERCISE = ROOT / "python/rtfilter", ROOT / "python/tests/exercise.py"
+LIBRARY = os.environ.get("RTFILTER_LIBRARY", str(ROOT / "build/librtfilter.a"))
+LATER = "3.12", "3.13", "3.14"
+LONGEST = 250
+
+
+def exercised(python: list[str], package: Path, table: Path, **environment: str) -> str:
+    """What the exercise prints."""
+    given = {"PATH": os.environ["PATH"], "PYTHONPATH": str(package.parent), "PYTHONDONTWRITEBYTECODE": "1", **environment}
+    done = subprocess.run([*python, str(EXERCISE), str(table)], env=given, capture_output=True, text=True, timeout=LONGEST)
+    assert done.returncode == 0, done.stderr[-3000:]
+    return done.stdout
+
+
+@pytest.fixture
+def table(data: Path) -> Path:
+    return data / "boxes.csv"
+
+
+@pytest.fixture
+def wanted(table: Path) -> str:
+    return exercised([sys.executable], PACKAGE, table)
+
+
+def later_pythons() -> Iterator[str]:
+    """Later Pythons: those on the path, and those of pyenv."""
+    folders = [Path(it) for it in os.environ["PATH"].split(os.pathsep)]
+    folders += sorted(Path.home().glob(".pyenv/versions/*/bin"))
+    for version in LATER:
+        for folder in folders:
+            path = folder / f"python{version}"
+            if path.exists() and subprocess.run([path, "-c", ""], capture_output=True).returncode == 0:
+                yield str(path)
+                break
+
+
+def test_later_pythons(table: Path, wanted: str) -> None:
+    pythons = [*later_pythons()]
+    if not pythons:
+        pytest.skip("no later Python than 3.11 is installed")
+    for python in pythons:
+        assert exercised([python], PACKAGE, table) == wanted
+
+
+@pytest.fixture
+def sanitized(tmp_path: Path) -> Path:
+    """The package with an extension that the sanitizers watch."""
+    if not shutil.which("gcc") or not Path(LIBRARY).exists():
+        pytest.skip("gcc or librtfilter.a isn't there")
+    package = tmp_path / "rtfilter"
+    shutil.copytree(PACKAGE, package, ignore=shutil.ignore_patterns("*.so", "__pycache__"))
+    include = subprocess.check_output([sys.executable, "-c", "import sysconfig; print(sysconfig.get_paths()['include'])"], text=True)
+    words = ["gcc", "-g", "-O1", "-fsanitize=address,undefined", "-fno-sanitize-recover=all", "-fPIC", "-shared"]
+    words += [f"-I{include.strip()}", f"-I{ROOT / 'include'}", str(ROOT / "python/engine/_engine.c"), LIBRARY]
+    subprocess.run([*words, "-o", str(package / "_engine.abi3.so")], check=True)
+    return package
+
+
+def test_sanitizers(sanitized: Path, table: Path, wanted: str) -> None:
+    library = subprocess.check_output(["gcc", "-print-file-name=libasan.so"], text=True).strip()
+    options = "detect_leaks=0:allocator_may_return_null=1"
+    environment = {"LD_PRELOAD": library, "ASAN_OPTIONS": options, "PYTHONMALLOC": "malloc"}
+    assert exercised([sys.executable], sanitized, table, **environment) == wanted
+
+
+def test_valgrind(table: Path, wanted: str) -> None:
+    valgrind = shutil.which("valgrind") or pytest.skip("valgrind isn't installed")
+    words = [valgrind, "--quiet", "--error-exitcode=9", "--trace-children=no", sys.executable]
+    assert exercised(words, PACKAGE, table, PYTHONMALLOC="malloc") == wanted

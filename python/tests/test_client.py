@@ -1,0 +1,297 @@
+"""A service over its socket: its ends, its silence, its absence."""
+
+import asyncio
+import os
+import pickle
+import socket
+import threading
+import time
+from collections.abc import Iterator
+from pathlib import Path
+from typing import Any
+
+import pytest
+from conftest import Serve
+
+from rtfilter import All, Client, Disconnected, QueryError, Rtfilter, RtfilterError, TimedOut, Window, aio
+
+
+class Fake:
+    """A service that does with each connection what a function does."""
+
+    def __init__(self, path: Path) -> None:
+        self.path = path
+        self.acts: list[Any] = []
+        self._socket = socket.socket(socket.AF_UNIX)
+        self._socket.bind(str(path))
+        self._socket.listen()
+        self._thread = threading.Thread(target=self._serve, daemon=True)
+        self._thread.start()
+
+    def _serve(self) -> None:
+        while True:
+            try:
+                connection, _ = self._socket.accept()
+            except OSError:
+                return
+            with connection:
+                self.acts.pop(0)(connection)
+
+    def close(self) -> None:
+        self._socket.shutdown(socket.SHUT_RDWR)
+        self._socket.close()
+        self._thread.join()
+
+
+@pytest.fixture
+def fake(tmp_path: Path) -> Iterator[Fake]:
+    fake = Fake(tmp_path / "fake")
+    yield fake
+    fake.close()
+
+
+def answer(connection: socket.socket) -> None:
+    """Answers lines of `count all` with 7 until the other side ends."""
+    number = 0
+    for _ in connection.makefile("rb"):
+        number += 1
+        connection.sendall(b"ok %d 7\n" % number)
+
+
+def say(text: bytes) -> Any:
+    """Reads once, writes a text and closes."""
+
+    def act(connection: socket.socket) -> None:
+        connection.recv(1000)
+        connection.sendall(text)
+
+    return act
+
+
+def be_silent(connection: socket.socket) -> None:
+    while connection.recv(1000):
+        pass
+
+
+def test_calls(client: Client, boxes: Rtfilter) -> None:
+    assert len(client) == 5 and client.levels() == boxes.levels() and bool(client)
+    assert client.find(Window(0, 10, 0, 10)) == [1, 2] and client.find(All(), scores=True, first=1) == [(1, 0)]
+    with pytest.raises(QueryError) as raised:
+        client.find(Window(5, 1, 0, 1))
+    assert (raised.value.query, raised.value.code) == ("find window 5 1 0 1", "Q7")
+    for bad, error in ((0.5, TypeError), ("x", TypeError)):
+        with pytest.raises(error):
+            client.find(Window(0, bad, 0, 1))  # type: ignore[arg-type]
+    for on, error in (([], ValueError), (64, ValueError), (True, TypeError), ("3", TypeError), (1.5, TypeError)):
+        with pytest.raises(error):
+            client.count(All(), on=on)  # type: ignore[arg-type]
+    with pytest.raises(TypeError):
+        client.find(All(), All())  # type: ignore[call-overload]
+    with pytest.raises(TypeError, match="a client can't be pickled"):
+        pickle.dumps(client)
+
+
+def test_tcp(data: Path, tmp_path: Path, serve: Serve) -> None:
+    with socket.socket() as free:
+        free.bind(("127.0.0.1", 0))
+        port = free.getsockname()[1]
+    serve(data / "boxes.csv", "--tcp", str(port))
+    with Client(("127.0.0.1", port), timeout=20) as client:
+        assert client.count(All()) == 5
+
+
+def test_long_texts_go_both_ways(client: Client, boxes: Rtfilter) -> None:
+    text = b"find all\n" * 60_000
+    assert client.text(text) == boxes.text(text)
+
+
+def test_threads_share_a_connection(client: Client) -> None:
+    wrong: list[Any] = []
+
+    def ask(first: int) -> None:
+        for _ in range(200):
+            if client.find(All(), first=first) != [1, 2, 3, 4, 5][:first]:
+                wrong.append(first)
+
+    threads = [threading.Thread(target=ask, args=[at]) for at in range(6)]
+    for it in threads:
+        it.start()
+    for it in threads:
+        it.join()
+    assert not wrong
+
+
+def test_no_service(tmp_path: Path) -> None:
+    with pytest.raises(FileNotFoundError) as raised:
+        Client(tmp_path / "none")
+    assert raised.value.filename == str(tmp_path / "none")
+    with socket.socket(socket.AF_UNIX) as stale:
+        stale.bind(str(tmp_path / "stale"))
+        with pytest.raises(ConnectionRefusedError):
+            Client(tmp_path / "stale")
+    with socket.socket() as free:
+        free.bind(("127.0.0.1", 0))
+        with pytest.raises(ConnectionRefusedError):
+            Client(free.getsockname())
+
+    async def ask() -> None:
+        async with aio.Client(tmp_path / "none") as client:
+            await client.count(All())
+
+    with pytest.raises(FileNotFoundError) as raised:
+        asyncio.run(ask())
+    assert raised.value.filename == str(tmp_path / "none")
+
+
+REASON = b"rtfilter-serve: silent for 600 seconds\n"
+
+
+@pytest.mark.parametrize("text, why", [(b"", ""), (b"1 0\n", ""), (REASON, ": silent for 600 seconds")])
+def test_a_service_that_closes(fake: Fake, text: bytes, why: str) -> None:
+    fake.acts = [say(text), answer]
+    with Client(fake.path, timeout=20) as client:
+        with pytest.raises(Disconnected) as raised:
+            client.find(All())
+        assert str(raised.value) == f"the service at {fake.path} closed the connection{why}"
+        assert isinstance(raised.value, ConnectionError) and isinstance(raised.value, RtfilterError)
+        assert client.count(All()) == 7
+
+
+def test_a_service_that_closed_between_two_calls(fake: Fake) -> None:
+    fake.acts = [lambda it: it.sendall(b"ok 1 7\n" + 0 * it.recv(100)), answer]
+    with Client(fake.path, timeout=20) as client:
+        assert client.count(All()) == 7
+        time.sleep(0.2)
+        assert client.count(All()) == 7
+
+
+def test_a_silent_service(fake: Fake) -> None:
+    fake.acts = [be_silent, answer]
+    with Client(fake.path, timeout=0.3) as client:
+        begun = time.monotonic()
+        with pytest.raises(TimedOut, match="no reply in 0.3 seconds") as raised:
+            client.find(All())
+        assert 0.2 < time.monotonic() - begun < 5 and isinstance(raised.value, TimeoutError)
+        assert client.count(All()) == 7
+
+
+def test_one_deadline_holds_for_the_turn_too(fake: Fake) -> None:
+    fake.acts = [be_silent, be_silent]
+    client = Client(fake.path, timeout=0.5)
+    raised: list[float] = []
+
+    def ask() -> None:
+        begun = time.monotonic()
+        with pytest.raises(TimedOut):
+            client.find(All())
+        raised.append(time.monotonic() - begun)
+
+    threads = [threading.Thread(target=ask) for _ in range(2)]
+    for it in threads:
+        it.start()
+    for it in threads:
+        it.join()
+    assert len(raised) == 2 and max(raised) < 2
+    client.close()
+
+
+def test_broken_off_calls_close_the_connection(fake: Fake) -> None:
+    import signal
+
+    def interrupt(*_: Any) -> None:
+        raise KeyboardInterrupt
+
+    fake.acts = [be_silent, answer]
+    before = signal.signal(signal.SIGALRM, interrupt)
+    try:
+        with Client(fake.path) as client:
+            signal.setitimer(signal.ITIMER_REAL, 0.1)
+            with pytest.raises(KeyboardInterrupt):
+                client.find(All())
+            assert client.count(All()) == 7
+    finally:
+        signal.signal(signal.SIGALRM, before)
+
+
+def test_a_call_in_the_middle_of_a_call(fake: Fake) -> None:
+    import signal
+
+    raised: list[BaseException] = []
+    fake.acts = [be_silent]
+    client = Client(fake.path, timeout=1)
+
+    def ask(*_: Any) -> None:
+        try:
+            client.count(All())
+        except BaseException as error:
+            raised.append(error)
+
+    before = signal.signal(signal.SIGALRM, ask)
+    try:
+        signal.setitimer(signal.ITIMER_REAL, 0.1)
+        with pytest.raises(TimedOut):
+            client.find(All())
+    finally:
+        signal.signal(signal.SIGALRM, before)
+    assert [*map(type, raised)] == [RuntimeError]
+
+
+def test_a_child_of_a_fork(client: Client) -> None:
+    assert client.count(All()) == 5
+    child = os.fork()
+    if child == 0:
+        status = 3
+        try:
+            client.count(All())
+        except RuntimeError:
+            client.close()
+            status = 0
+        finally:
+            os._exit(status)
+    assert os.waitpid(child, 0)[1] == 0
+    assert client.count(All()) == 5
+
+
+def test_closed(client: Client) -> None:
+    client.close()
+    client.close()
+    for call in (lambda: client.find(All()), lambda: client.text(b""), lambda: len(client)):
+        with pytest.raises(ValueError, match="the client was closed"):
+            call()
+
+
+def test_asyncio(fake: Fake) -> None:
+    fake.acts = [say(REASON), be_silent, be_silent, answer]
+
+    async def ask() -> None:
+        async with aio.Client(fake.path, timeout=0.3) as client:
+            with pytest.raises(Disconnected, match="silent for 600 seconds"):
+                await client.find(All())
+            with pytest.raises(TimedOut, match="no reply in 0.3 seconds"):
+                await client.find(All())
+            task = asyncio.create_task(client.find(All()))
+            await asyncio.sleep(0.1)
+            task.cancel()
+            with pytest.raises(asyncio.CancelledError):
+                await task
+            assert await client.count(All()) == await client.size() == 7
+            await client.close()
+            with pytest.raises(ValueError, match="the client was closed"):
+                await client.find(All())
+
+    asyncio.run(ask())
+
+
+def test_asyncio_calls(data: Path, serve: Serve, boxes: Rtfilter) -> None:
+    async def ask(path: Path) -> None:
+        async with aio.Client(path, timeout=20) as client:
+            found = await asyncio.gather(*(client.nearest(1, x, y) for x, y in ((0, 0), (12, 12), (25, 5))))
+            assert found == [[(1, 0)], [(2, 0)], [(3, 0)]]
+            assert await client.levels() == boxes.levels() and await client.find(All(), first=2) == [1, 2]
+            text = b"find all\n# comment\nfind x\n" * 500
+            assert await client.text(text) == boxes.text(text) and await client.text(b"") == b""
+            assert [*map(str, await client.replies(["count all", "", "x"]))] == [*map(str, boxes.replies(["count all", "", "x"]))]
+            with pytest.raises(QueryError):
+                await client.find(Window(5, 1, 0, 1))
+
+    asyncio.run(ask(serve(data / "boxes.csv")))

@@ -1,0 +1,248 @@
+"""Geometries beside shapely, geopandas and plain comparisons of floats."""
+
+import pickle
+import random
+import warnings
+from collections.abc import Callable
+from types import SimpleNamespace
+from typing import Any
+
+import numpy
+import pytest
+
+geopandas = pytest.importorskip("geopandas")
+shapely = pytest.importorskip("shapely")
+from shapely.geometry import LineString, MultiPoint, Point, Polygon, box  # noqa: E402
+
+from rtfilter import geometry  # noqa: E402
+from rtfilter.geometry import MIRRORED, STRtree, sjoin  # noqa: E402
+
+pytestmark = pytest.mark.filterwarnings("ignore::DeprecationWarning", "ignore::FutureWarning", "ignore:.*STRtree.*")
+
+Rng = numpy.random.Generator
+POOLS: list[Callable[[Rng], Any]] = [  # floats from which bounds are drawn
+    lambda it: it.random(30) * 360 - 180,
+    lambda it: it.random(20) * 1e-300,
+    lambda it: (it.random(20) - 0.5) * 1e300,
+    lambda it: it.integers(-5, 5, 30).astype(float),
+    lambda it: it.integers(-(2**31), 2**31, 20) * 1.0,
+    lambda it: 1e9 + it.random(20) * 1e-6,
+    lambda it: numpy.array([0.1, 0.2, 0.3, 0.1 + 0.2, -0.0, 0.0]),
+    lambda it: it.normal(size=30) * 10.0 ** it.integers(-8, 8, 30),
+    lambda it: numpy.nextafter(it.integers(-3, 3, 20).astype(float), it.choice([-9, 9], 20)),
+    lambda it: it.random(25) * 2**31,
+    lambda it: it.choice([-1.7e308, 1.7e308, 0.0, 5e-324, 1e-310], 20),
+    lambda it: numpy.array([2.0**31, 2.0**31 - 1, -(2.0**31), -(2.0**31) - 1, 0.5]),
+]
+
+
+def some_bounds(chance: Rng, pool: Any, count: int) -> Any:
+    drawn = chance.choice(pool, (count, 4))
+    return numpy.hstack([numpy.minimum(drawn[:, :2], drawn[:, 2:]), numpy.maximum(drawn[:, :2], drawn[:, 2:])])
+
+
+def meeting(boxes: Any, windows: Any) -> Any:
+    """The pairs that share a point, by comparisons of floats alone."""
+    low, high = boxes[None, :, :2], boxes[None, :, 2:]
+    found = ((low <= windows[:, None, 2:]) & (windows[:, None, :2] <= high)).all(axis=2)
+    return numpy.argwhere(found).T
+
+
+@pytest.mark.parametrize("pool", range(len(POOLS)))
+def test_decimals_are_compared_exactly(pool: int) -> None:
+    chance = numpy.random.default_rng(pool)
+    pairs = 0
+    for trial in range(150):
+        drawn = POOLS[pool](chance)
+        boxes = some_bounds(chance, drawn, int(chance.integers(0, 60)))
+        windows = some_bounds(chance, drawn, int(chance.integers(1, 40)))
+        if trial % 3 == 0 and pool != 10:
+            windows = numpy.sort(windows.reshape(-1, 2, 2) * chance.choice([1, 2, 1e5]), axis=1).reshape(-1, 4)
+        found = STRtree.from_bounds(boxes).query_bounds(windows)
+        assert numpy.array_equal(found, meeting(boxes, windows).reshape(2, -1))
+        pairs += found.shape[1]
+    assert pairs > 1000
+
+
+def some_geometries(chance: random.Random, count: int) -> list[Any]:
+    """Geometries that touch, cross and cover each other, None and empty ones among them."""
+
+    def one() -> Any:
+        x, y = chance.randrange(10), chance.randrange(10)
+        kinds: list[Callable[[], Any]] = [
+            lambda: None,
+            Point,
+            lambda: Point(x, y),
+            lambda: Point(x + chance.random(), y + chance.random()),
+            lambda: box(x, y, x + chance.randint(1, 3), y + 2),
+            lambda: LineString([(x, y), (x + 2, y - 1)]),
+            lambda: Point(x, y).buffer(1.2, 3),
+            lambda: MultiPoint([(x, y), (y, x)]),
+            lambda: box(x, y, x + 4, y + 4).difference(box(x + 1, y + 1, x + 3, y + 3)),
+        ]
+        return chance.choices(kinds, [1, 1, 6, 4, 6, 4, 3, 1, 2])[0]()
+
+    return [one() for _ in range(count)]
+
+
+def is_there(it: Any) -> bool:
+    return it is not None and not it.is_empty
+
+
+@pytest.mark.parametrize("predicate", sorted(MIRRORED))
+def test_predicates_are_those_of_shapely(predicate: str) -> None:
+    chance, pairs = random.Random(predicate), 0
+    for _ in range(15):
+        held, asked = some_geometries(chance, 60), some_geometries(chance, 40)
+        tree = STRtree(held)
+        wanted = [
+            (at, place)
+            for at, one in enumerate(asked)
+            for place, it in enumerate(held)
+            if is_there(one) and is_there(it) and (it.covers(one) if predicate == "covered_by" else getattr(one, predicate)(it))
+        ]
+        assert [*zip(*tree.query(asked, predicate).tolist())] == wanted
+        assert tree.query(asked[0], predicate).tolist() == [place for at, place in wanted if at == 0]
+        pairs += len(wanted)
+    assert pairs > 20
+
+
+def test_distances_are_those_of_shapely() -> None:
+    chance, equal = random.Random(3), 0
+    for trial in range(60):
+        held, asked = some_geometries(chance, chance.choice([0, 1, 5, 60])), some_geometries(chance, 25)
+        tree, most = STRtree(held), chance.choice([None, None, 0.5, 2.0])
+        nearest, distances, near = [], [], []
+        reach = chance.choice([0.0, 1.0, 2.5])
+        for at, one in enumerate(asked):
+            known = [(one.distance(it), place) for place, it in enumerate(held) if is_there(it)] if is_there(one) else []
+            least = min(known, default=(0.0, 0))[0]
+            nearest += [(at, place) for far, place in known if far == least and (most is None or far <= most)]
+            distances += [far for far, place in known if far == least and (most is None or far <= most)]
+            near += [(at, place) for far, place in known if far <= reach]
+        found, fars = tree.query_nearest(asked, max_distance=most, return_distance=True)
+        assert [*zip(*found.tolist())] == nearest and fars.tolist() == distances
+        firsts = [*{at: (at, place) for at, place in reversed(nearest)}.values()][::-1]
+        assert [*zip(*tree.query_nearest(asked, max_distance=most, all_matches=False).tolist())] == firsts
+        assert tree.query_nearest(asked[0], max_distance=most).tolist() == [place for at, place in nearest if at == 0]
+        assert [*zip(*tree.query(asked, "dwithin", distance=reach).tolist())] == near
+        equal += len(nearest) - len({at for at, _ in nearest})
+    assert equal > 100
+
+
+def test_nearest_of_far_and_near_floats() -> None:
+    chance = numpy.random.default_rng(4)
+    for scale in (1e-200, 1e-9, 1.0, 1e9, 1e150):
+        points = [Point(*it) for it in (chance.random((300, 2)) - 0.5) * scale]
+        asked = [Point(*it) for it in (chance.random((40, 2)) - 0.5) * scale * 1.5]
+        found = STRtree(points).query_nearest(asked)
+        for at, one in enumerate(asked):
+            known = [one.distance(it) for it in points]
+            assert found[1][found[0] == at].tolist() == [place for place, far in enumerate(known) if far == min(known)]
+
+
+def test_ways_in_and_out() -> None:
+    held = [Point(1, 1), None, box(0, 0, 2, 2), Point()]
+    frame = geopandas.GeoDataFrame({"n": range(4)}, geometry=held)
+    for given in (held, iter(held), frame, frame.geometry, frame.geometry.values, numpy.array([*held, 0], object)[:4]):
+        tree = STRtree(given)
+        assert len(tree) == 2 and tree.query(Point(1, 1)).tolist() == [0, 2]
+        assert tree.query(Point(1, 1), "within").tolist() == [0, 2] and tree.query(None).tolist() == []
+        assert tree.query(frame).tolist() == [[0, 0, 2, 2], [0, 2, 0, 2]]
+    copy = pickle.loads(pickle.dumps(STRtree(held)))
+    assert copy.query([Point(1, 1), None], "intersects").tolist() == [[0, 0], [0, 2]]
+    copy = pickle.loads(pickle.dumps(STRtree.from_bounds([(0, 0, 1.5, 1.5), (numpy.nan,) * 4])))
+    assert copy.query_bounds((1.5, 1.5, 2, 2)).tolist() == [0] and copy.query(Point(1.5, 0)).tolist() == [0]
+    assert STRtree([]).query([Point(0, 0)]).tolist() == [[], []] and STRtree([]).query_nearest(Point(0, 0)).tolist() == []
+
+
+@pytest.mark.parametrize(
+    "call, words",
+    [
+        (lambda it: it.query(Point(0, 0), "near"), "'near' is no predicate; there are contains, covered_by, covers, crosses, dwithin"),
+        (lambda it: it.query(Point(0, 0), "dwithin"), "a distance goes with the predicate dwithin"),
+        (lambda it: it.query(Point(0, 0), distance=3), "a distance goes with the predicate dwithin"),
+        (lambda it: it.query_nearest(Point(0, 0), max_distance=0), "max_distance is above 0"),
+        (lambda it: it.query_bounds((0, 0, numpy.inf, 1)), "bounds: infinite bounds at place 0"),
+        (lambda it: STRtree.from_bounds([(0, 0, 1, 1), (0, -numpy.inf, 1, 1)]), "bounds: infinite bounds at place 1"),
+        (lambda it: STRtree.from_bounds([(0, 0, 1, 1), (0, 2, 1, 1)]), "bounds: a minimum above its maximum at place 1"),
+        (lambda it: STRtree.from_bounds([(0, 0, 1, 1)]).query_nearest(Point(0, 0)), "has no geometries"),
+        (lambda it: sjoin(None, None, how="outer"), "how is inner, left or right, and not 'outer'"),
+    ],
+)
+def test_refused(call: Any, words: str) -> None:
+    with pytest.raises(ValueError) as raised:
+        call(STRtree([Point(0, 0)]))
+    assert words in str(raised.value)
+    with pytest.raises(TypeError):
+        STRtree.from_bounds([(0, 0, 1)])
+
+
+@pytest.mark.parametrize("how", ["inner", "left", "right"])
+@pytest.mark.parametrize("predicate", ["intersects", "within", "contains"])
+def test_joins_are_those_of_geopandas(how: str, predicate: str) -> None:
+    chance, pairs = random.Random(f"{how} {predicate}"), 0
+    for index in ([*range(40)], [f"row{it}" for it in range(40)], [it // 2 for it in range(40)]):
+        left = geopandas.GeoDataFrame({"n": range(40), "a": 1.5}, geometry=some_geometries(chance, 40), index=index)
+        right = geopandas.GeoDataFrame({"n": range(30), "b": "x"}, geometry=some_geometries(chance, 30), index=range(100, 130))
+        with warnings.catch_warnings():
+            warnings.simplefilter("ignore")
+            wanted = geopandas.sjoin(left, right, how=how, predicate=predicate)
+        found = sjoin(left, right, how=how, predicate=predicate)
+        assert set(found) == set(wanted) and type(found) is type(wanted)
+        assert listed(found) == listed(wanted)
+        assert found.geometry.name == wanted.geometry.name
+        pairs += len(found)
+    assert pairs > 10
+
+
+def listed(frame: Any) -> list[str]:
+    """The rows of a frame, in any order: pandas has None and NaN for what is missing."""
+    names = sorted(frame)
+    rows = zip(frame.index, *(frame[name] for name in names))
+    return sorted(" ".join("-" if it is None or it != it else str(it) for it in row) for row in rows)
+
+
+def test_frames_with_different_crs() -> None:
+    left = geopandas.GeoDataFrame(geometry=[Point(0, 0)], crs=4326)
+    with pytest.warns(UserWarning, match="different CRS"):
+        assert len(sjoin(left, geopandas.GeoDataFrame(geometry=[Point(0, 0)], crs=3857))) == 1
+
+
+def test_the_calls_of_shapely_2(monkeypatch: pytest.MonkeyPatch) -> None:
+    """A stand-in for the functions of shapely 2 that are called, over shapely 1.8; they take arrays."""
+    prepared: list[int] = []
+
+    def bounds(geometries: Any) -> Any:
+        return numpy.array([it.bounds if is_there(it) else (numpy.nan,) * 4 for it in geometries], float).reshape(-1, 4)
+
+    def named(name: str) -> Any:
+        def call(some: Any, others: Any) -> Any:
+            assert some.dtype == others.dtype == object and some.shape == others.shape
+            if name == "covered_by":
+                return numpy.array([other.covers(one) for one, other in zip(some, others)], bool)
+            return numpy.array([getattr(one, name)(other) for one, other in zip(some, others)])
+
+        return call
+
+    stand_in = SimpleNamespace(bounds=bounds, prepare=lambda it: prepared.append(len(it)), distance=named("distance"))
+    for name in MIRRORED:
+        setattr(stand_in, name, named(name))
+    chance = random.Random(8)
+    held, asked = some_geometries(chance, 60), some_geometries(chance, 40)
+    calls: list[Callable[[STRtree], Any]] = [lambda it: it.query(asked), lambda it: it.query_nearest(asked, return_distance=True)]
+    calls += [lambda it, name=name: it.query(asked, name) for name in MIRRORED]  # type: ignore[misc]
+    calls += [lambda it: it.query(asked, "dwithin", distance=1.5), lambda it: it.query_nearest(asked, max_distance=1.0)]
+    wanted = [call(STRtree(held)) for call in calls]
+    monkeypatch.setattr(geometry, "shapely", stand_in)
+    monkeypatch.setattr(geometry, "IS_TWO", True)
+    for call, it in zip(calls, wanted):
+        for one, other in zip(call(STRtree(held)), it, strict=True):
+            assert numpy.array_equal(one, other)
+    assert len(prepared) == len(MIRRORED)
+
+
+def test_polygons_of_other_libraries_are_kept_as_they_are() -> None:
+    ring = Polygon([(0, 0), (3, 0), (0, 3)])
+    tree = STRtree([ring])
+    assert tree.geometries is not None and tree.geometries[0] is ring

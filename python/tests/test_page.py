@@ -1,0 +1,26 @@
+"""The examples of docs/python.md show what Python prints."""
+
+import contextlib
+import doctest
+import warnings
+from pathlib import Path
+
+import pytest
+from conftest import ROOT
+
+PAGE = ROOT / "docs/python.md"
+MOST_LINES = 200
+
+
+@pytest.mark.filterwarnings("ignore")
+def test_examples(data: Path) -> None:
+    pytest.importorskip("geopandas")
+    text = PAGE.read_text(encoding="utf-8")
+    examples = "".join(block.split("\n```")[0] + "\n" for block in text.split("```pycon\n")[1:])
+    session = doctest.DocTestParser().get_doctest("\n".join(examples.splitlines()) + "\n", {}, PAGE.name, str(PAGE), 0)
+    assert len(session.examples) > 25 and text.count("\n") <= MOST_LINES
+    with contextlib.chdir(data), warnings.catch_warnings():
+        warnings.simplefilter("ignore")
+        shown: list[str] = []
+        failed, _ = doctest.DocTestRunner().run(session, out=shown.append)
+    assert failed == 0, "".join(shown)

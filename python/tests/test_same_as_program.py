@@ -1,0 +1,230 @@
+"""Every way to ask gives what the program writes."""
+
+import asyncio
+import os
+import random
+import threading
+from collections.abc import Callable
+from pathlib import Path
+from typing import Any
+
+import numpy
+import pytest
+from conftest import Random, Run, Serve
+
+from rtfilter import All, Answers, Circle, Client, Covers, Inside, Near, Polygon, QueryError, Rtfilter, Smallest, Window, aio
+from rtfilter.regions import count_line, find_line, nearest_line
+
+TABLES, LINES = 20, 10_000  # random lines over each table
+CALLS = 1500
+
+
+@pytest.mark.parametrize("seed", range(TABLES))
+def test_lines(seed: int, tmp_path: Path, run: Run, sound_table: Random, some_line: Random) -> None:
+    chance = random.Random(seed)
+    table = tmp_path / "table"
+    table.write_bytes(sound_table(chance))
+    lines = [some_line(chance).replace(b"\n", b"") for _ in range(LINES)]
+    wanted = run(table, b"\n".join(lines) + b"\n")
+    with Rtfilter(table) as boxes:
+        assert boxes.text(b"\n".join(lines)) == wanted
+        replies = boxes.replies(map(os.fsdecode, lines))
+    assert b"".join(written(at, it) for at, it in enumerate(replies, 1)) == wanted
+    assert {type(it) for it in replies} == {Answers, QueryError, type(None)}
+
+
+def written(at: int, reply: Any) -> bytes:
+    """A reply as the program writes it."""
+    if reply is None:
+        return b""
+    if isinstance(reply, QueryError):
+        return b"error %d %s %s\n" % (at, reply.code.encode(), reply.text.encode())
+    answers = b"".join(b"%d %d\n" % pair for pair in zip(reply.ids, reply.scores, strict=True))
+    return answers + b"ok %d %d\n" % (at, reply.total)
+
+
+Made = tuple[str, Callable[[Any], Any]]
+
+
+class Calls:
+    """Random calls, some of them faulty, and their lines."""
+
+    def __init__(self, chance: random.Random) -> None:
+        self.chance = chance
+
+    def number(self) -> int:
+        return self.chance.choice([self.chance.randint(-12, 12)] * 9 + [2**31 - 1, -(2**31), 2**31])
+
+    def sides(self) -> list[int]:
+        low, high = sorted(self.number() for _ in range(2))
+        pairs = [low, high, *sorted(self.number() for _ in range(2))]
+        return pairs if self.chance.random() < 0.9 else pairs[::-1]
+
+    def region(self) -> Any:
+        x, y, radius = self.number(), self.number(), self.chance.choice([0, 1, 5, 20, 2**32 - 1, 2**32])
+        corners = [(x, y), (x + 9, y + radius % 11), (x - 3, y + 12)]
+        return self.chance.choice(
+            [All(), Window(*self.sides()), Inside(*self.sides()), Covers(*self.sides()), Circle(x, y, radius), Polygon(corners)]
+        )
+
+    def some(self) -> Made:
+        region, on = self.region(), self.chance.choice([None, None, 0, 3, [0, 5], range(64)])
+        order = self.chance.choice([None, Near(self.chance.randint(-9, 9), 4), Smallest()])
+        first = self.chance.choice([None, None, 0, 1, 3, 100, 2**64 - 1])
+        kind = self.chance.choice(["find", "find", "count", "nearest", "cost find", "cost count"])
+        if kind == "nearest":
+            k, x, y = self.chance.choice([0, 1, 4, 2**64 - 1]), self.number(), self.number()
+            return nearest_line(k, x, y), lambda it: it.nearest(k, x, y)
+        if kind == "find":
+            return find_line(region, order, first, on), lambda it: it.find(region, order, first, on=on, scores=True)
+        if kind == "cost find":
+            return f"cost {find_line(region, order, first, on)}", lambda it: it.cost_of_find(region, order, first, on=on)
+        if kind == "cost count":
+            return f"cost {count_line(region, on)}", lambda it: it.cost_of_count(region, on=on)
+        return count_line(region, on), lambda it: it.count(region, on=on)
+
+
+def wanted_of(lines: list[str], text: bytes) -> list[Any]:
+    """What calls give for these lines: a list of pairs, a number, or the code and the text of a fault."""
+    found: list[Any] = []
+    pairs: list[tuple[int, ...]] = []
+    for line in text.splitlines():
+        if not line.startswith((b"ok", b"error")):
+            pairs.append(tuple(map(int, line.split())))
+            continue
+        if line.startswith(b"error"):
+            found.append(tuple(line.decode().split(" ", 3)[2:]))
+        else:
+            found.append(pairs if lines[len(found)].startswith(("find", "nearest")) else int(line.split()[2]))
+        pairs = []
+    return found
+
+
+def given_by(boxes: Any, call: Callable[[Any], Any]) -> Any:
+    try:
+        return call(boxes)
+    except QueryError as error:
+        return error.code, error.text
+
+
+Case = tuple[Path, list[Callable[[Any], Any]], list[Any]]
+
+
+@pytest.fixture
+def case(tmp_path: Path, run: Run, sound_table: Random, request: pytest.FixtureRequest) -> Case:
+    """A table, calls, and what the program answers."""
+    chance = random.Random(getattr(request, "param", 7))
+    table = tmp_path / "table"
+    text = b""
+    while text.count(b"\n") < 8:
+        text = sound_table(chance)
+    table.write_bytes(text)
+    lines, calls = zip(*(Calls(chance).some() for _ in range(CALLS)))
+    wanted = wanted_of(list(lines), run(table, "".join(f"{it}\n" for it in lines).encode()))
+    assert len(wanted) == CALLS and {type(it) for it in wanted} == {list, int, tuple}
+    return table, list(calls), wanted
+
+
+@pytest.mark.parametrize("case", range(TABLES), indirect=True)
+def test_calls(case: Case) -> None:
+    table, calls, wanted = case
+    with Rtfilter(table) as boxes:
+        assert [given_by(boxes, it) for it in calls] == wanted
+
+
+def test_calls_of_threads(case: Case) -> None:
+    table, calls, wanted = case
+    found: list[Any] = [None] * 6
+    with Rtfilter(table) as boxes:
+
+        def ask(at: int) -> None:
+            found[at] = [given_by(boxes, it) for it in calls]
+
+        threads = [threading.Thread(target=ask, args=[at]) for at in range(len(found))]
+        for it in threads:
+            it.start()
+        for it in threads:
+            it.join()
+    assert found == [wanted] * len(found)
+
+
+def test_calls_with_asyncio(case: Case) -> None:
+    table, calls, wanted = case
+
+    async def ask(boxes: Rtfilter) -> list[Any]:
+        return await asyncio.gather(*(asyncio.to_thread(given_by, boxes, it) for it in calls[:300]))
+
+    with Rtfilter(table) as boxes:
+        assert asyncio.run(ask(boxes)) == wanted[:300]
+
+
+def test_calls_in_a_child(case: Case) -> None:
+    table, calls, wanted = case
+    with Rtfilter(table) as boxes:
+        child = os.fork()
+        if child == 0:
+            status = 3
+            try:
+                status = int([given_by(boxes, it) for it in calls] != wanted)
+            finally:
+                os._exit(status)
+        assert os.waitpid(child, 0)[1] == 0
+
+
+def test_calls_of_a_client(case: Case, serve: Serve) -> None:
+    table, calls, wanted = case
+    with Client(serve(table), timeout=60) as boxes:
+        assert [given_by(boxes, it) for it in calls] == wanted
+
+
+def test_calls_of_a_client_with_asyncio(case: Case, serve: Serve) -> None:
+    table, calls, wanted = case
+
+    async def given(boxes: aio.Client, call: Callable[[Any], Any]) -> Any:
+        try:
+            return await call(boxes)
+        except QueryError as error:
+            return error.code, error.text
+
+    async def ask(address: Path) -> list[Any]:
+        async with aio.Client(address, timeout=60) as boxes:
+            return await asyncio.gather(*(given(boxes, it) for it in calls))
+
+    assert asyncio.run(ask(serve(table))) == wanted
+
+
+def test_lines_of_a_client(tmp_path: Path, run: Run, serve: Serve, sound_table: Random, some_line: Random) -> None:
+    chance = random.Random(5)
+    table = tmp_path / "table"
+    table.write_bytes(sound_table(chance))
+    lines = [some_line(chance).replace(b"\n", b"") for _ in range(3000)]
+    texts = [*map(os.fsdecode, lines)]
+    with Rtfilter(table) as boxes, Client(serve(table), timeout=60) as client:
+        while lines:
+            count = chance.choice([0, 1, 2, 30, 700])
+            text = b"\n".join(lines[:count])
+            assert client.text(text) == boxes.text(text) == run(table, text)
+            assert [*map(str, client.replies(texts[:count]))] == [*map(str, boxes.replies(texts[:count]))]
+            lines, texts = lines[count:], texts[count:]
+
+
+@pytest.mark.parametrize("seed", range(5))
+def test_many_at_once(seed: int, tmp_path: Path, run: Run, sound_table: Random) -> None:
+    chance = random.Random(seed)
+    table = tmp_path / "table"
+    table.write_bytes(sound_table(chance))
+    rows = numpy.array([[*sorted(chance.sample(range(-20, 20), 2)), *sorted(chance.sample(range(-20, 20), 2))] for _ in range(3000)])
+    with Rtfilter(table) as boxes:
+        for region, word in ((Window, "window"), (Inside, "inside"), (Covers, "covers")):
+            options: Any
+            for options, words in (({}, ""), ({"on": 3}, " on 3"), ({"order": Near(1, 2), "first": 3}, " near 1 2 first 3")):
+                text = "".join(f"find {word} {' '.join(map(str, it))}{words}\n" for it in rows.tolist())
+                wanted = [pairs for pairs in wanted_of(text.splitlines(), run(table, text.encode()))]
+                places, ids = boxes.find_each(rows, region=region, **options)
+                assert [*zip(places.tolist(), ids.tolist())] == [(at, id) for at, it in enumerate(wanted) for id, _ in it]
+            text = "".join(f"count {word} {' '.join(map(str, it))} on 0,3\n" for it in rows.tolist())
+            assert boxes.count_each(rows, region=region, on=[0, 3]).tolist() == wanted_of(text.splitlines(), run(table, text.encode()))
+        text = "".join(f"nearest 4 {x} {y}\n" for x, _, y, _ in rows.tolist())
+        places, ids, scores = boxes.nearest_each(rows[:, [0, 2]], 4)
+        wanted = wanted_of(text.splitlines(), run(table, text.encode()))
+        assert [*zip(places.tolist(), ids.tolist(), scores.tolist())] == [(at, *it) for at, its in enumerate(wanted) for it in its]
