@@ -1,5 +1,5 @@
 mod ArrayLemmas
-mod ColumnLemmas
+mod BoxLemmas
 mod CostLemmas
 pub mod Headline
 mod Hulls

@@ -2,13 +2,13 @@
 
 ghost use Rattle.std.specs.Prelude.{◌≡◌, ◌<◌, ◌≤◌, ℕ, List, [], IfErr, IfOk, IfSome, IsOk, IsSome, IsTrue, OnErr, Some, None, ◌+◌, length, map, min, take, true};
 ghost use Rattle.rt_command.specs.Choices.{Choices};
-ghost use Rattle.rt_embed.specs.{Columns.{AreColumns, HasColumns, StopsAtColumns, lists_of}, Findings.{HasFound}};
+ghost use Rattle.rt_embed.specs.{GivenBoxes.{HasBoxes, StopsAtBoxes}, Findings.{HasFound}};
 ghost use Rattle.rt_embed.specs.{Costs.{opened_by_finds, opened_by_measures, opened_by_text}, Questions.{AllAsk, AsksNone, measured_of}};
 ghost use Rattle.rt_embed.specs.Sessions.{HasOpened, IsRunOf};
 ghost use Rattle.rt_filter.specs.{Lines.{numbered_lines}, Stages.{HasLoaded, Stops, is_of_load}};
 ghost use Rattle.rt_filter.specs.Replies.{Loaded, any_fault, output, tree_of};
 
-use crate::columns::{Columns, table_of};
+use crate::boxes::{Boxes, table_of};
 use crate::finding::{Found, find_each};
 use crate::measuring::measure_each;
 use crate::plain_query::PlainQuery;
@@ -72,21 +72,20 @@ impl Session {
         }
     }
 
-    /// The first session of a table in columns, packed under the settings, whose header isn't used; or why there is none.
-    pub fn of_columns(
+    /// The first session of a table of boxes, packed under the settings, whose header isn't used; or why there is none.
+    pub fn of_boxes<B: Boxes>(
         alloc: Global,
         settings: &Settings,
-        columns: Columns<'_>,
+        boxes: &B,
     ) -> Result<Session, RunFault>
-        requires columns { AreColumns (lists_of columns) }
+        requires fit { B.fit boxes.now }
         ensures loaded { IfOk result (λ session.
-            HasColumns settings.now (lists_of columns.entry) session.tree) }
+            HasBoxes settings.now (B.given boxes.now) session.tree) }
         ensures reply { IfOk result (λ session. session.reply ≡ []) }
         ensures ready { IfOk result (λ session. IsSome session.opened) }
-        ensures fault { IfErr result (λ fault.
-            StopsAtColumns settings.now (lists_of columns.entry) fault) }
+        ensures fault { IfErr result (λ fault. StopsAtBoxes settings.now (B.given boxes.now) fault) }
     {
-        let table = table_of(alloc, settings.max_entries(), columns)?;
+        let table = table_of(alloc, settings.max_entries(), boxes)?;
         let tree = Tree::pack(alloc, table, settings.fanout())?;
         let frontier = Frontier::new(alloc, tree.len())?;
         Ok(Session::of_tree(alloc, tree, frontier)?)

@@ -2,8 +2,9 @@
 use Rattle.std.specs.Prelude.{◌≡◌, ◌==◌, ◌++◌, ℕ, List, [], Option, Some, IfSome, IsSome, drop, length, take, ℤ, true}
 use Rattle.std.specs.Option.{IsSomeAnd}
 use Rattle.rt_command.specs.Choices.{Choices}
-use Rattle.rt_embed.specs.{Columns.{HasColumns, Lists}, Sessions.{Contents, HasOpened, IsRunOf}}
+use Rattle.rt_embed.specs.{Columns.{Lists, Parts}, GivenBoxes.{Given, HasBoxes}, Sessions.{Contents, HasOpened, IsRunOf}}
 use Rattle.rt_filter.specs.{Lines.{numbered_lines}, Replies.{Loaded, any_fault, output, tree_of}, Stages.{HasLoaded}}
+use Rattle.rt_embed.specs.declared.rows.Row.{Row}
 use Rattle.rt_tree.specs.Packed.{Packed}
 
 -- a session of a tree, with nothing replied and a frontier in which nothing was opened
@@ -65,6 +66,10 @@ abbrev pub arrays : (ids min_x max_x min_y max_y : List ℤ) → (layers : List 
 arrays ids min_x max_x min_y max_y layers =
     record { ids = ids; min_x = min_x; max_x = max_x; min_y = min_y; max_y = max_y; layers = layers }
 
--- a new session of the table in columns is held
-abbrev pub HoldsColumns : Choices → Lists → (held : Option Contents) → Type 0
-HoldsColumns choices columns held = IsSomeAnd held (λ session. HasColumns choices columns session.tree × IsNew session)
+-- the rows that these arrays are
+abbrev pub row_parts : (rows : List Row) → (ids : List ℤ) → (layers : List ℕ) → Parts
+row_parts rows ids layers = record { rows = rows; ids = ids; layers = layers }
+
+-- a new session of the table of boxes is held
+abbrev pub HoldsBoxes : Choices → Given → (held : Option Contents) → Type 0
+HoldsBoxes choices given held = IsSomeAnd held (λ session. HasBoxes choices given session.tree × IsNew session)

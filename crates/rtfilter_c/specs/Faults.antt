@@ -1,7 +1,7 @@
 -- The fault of a table in numbers.
 use Rattle.std.specs.Prelude.{◌≡◌, ◌==◌, ◌<◌, ◌-◌, ◌%◌, ◌^◌, ⊤, ℕ, if◌then◌else◌, List, length, take, Option, Some, None, Err}
 use Rattle.rt_command.specs.Choices.{Choices}
-use Rattle.rt_embed.specs.Columns.{Lists, table_of}
+use Rattle.rt_embed.specs.GivenBoxes.{Given, table_of}
 use Rattle.rt_filter.specs.Runs.{loaded_of}
 use Rattle.rt_text.specs.FaultLines.{fault_line}
 use Rattle.rtfilter_c.specs.Calls.{copied}
@@ -58,10 +58,10 @@ fault_with fault =
 abbrev pub ReportsFault : Choices → (table : List ℕ) → Fault → Type 0
 ReportsFault choices table fault = (cause : TableFault) × (loaded_of choices table ≡ Err cause) × (numbers_of cause ≡ Some fault)
 
--- the fault of columns is reported, in numbers
-abbrev pub ReportsColumnsFault : Choices → Lists → Fault → Type 0
-ReportsColumnsFault choices columns fault =
-    (cause : TableFault) × (table_of choices.max_entries columns ≡ Err cause) × (numbers_of cause ≡ Some fault)
+-- the fault of boxes is reported, in numbers
+abbrev pub ReportsBoxesFault : Choices → Given → Fault → Type 0
+ReportsBoxesFault choices given fault =
+    (cause : TableFault) × (table_of choices.max_entries given ≡ Err cause) × (numbers_of cause ≡ Some fault)
 
 -- a fault of a table, in numbers
 abbrev pub IsFaultInNumbers : RunFault → Fault → Type 0
