@@ -88,19 +88,13 @@ public:
 
     static Session of_boxes(const std::vector<Box> &boxes, const rtfilter_settings &settings = RTFILTER_DEFAULTS)
     {
-        std::vector<std::int64_t> ids;
-        std::vector<std::int32_t> sides[4];
-        std::vector<std::uint8_t> layers;
-        for (const Box &box : boxes) {
-            ids.push_back(box.id);
-            sides[0].push_back(box.min_x);
-            sides[1].push_back(box.max_x);
-            sides[2].push_back(box.min_y);
-            sides[3].push_back(box.max_y);
-            layers.push_back(box.layer);
-        }
-        return of_columns({boxes.size(), ids.data(), sides[0].data(), sides[1].data(), sides[2].data(), sides[3].data(),
-                           layers.data()}, settings);
+        std::vector<rtfilter_box> in_c;
+        in_c.reserve(boxes.size());
+        for (const Box &it : boxes)
+            in_c.push_back({it.id, it.min_x, it.max_x, it.min_y, it.max_y, it.layer});
+        return opened([&](rtfilter_session *out, rtfilter_fault *fault) {
+            return rtfilter_open_boxes(out, in_c.size(), in_c.data(), &settings, fault);
+        });
     }
 
     Session(Session &&other) noexcept : session{std::exchange(other.session.at, nullptr)} {}

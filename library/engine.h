@@ -25,6 +25,14 @@ uint8_t rtfilter_engine_open_arrays(rtfilter_session *out, const int64_t *ids, s
                                     size_t min_y_len, const int32_t *max_y, size_t max_y_len, const uint8_t *layers,
                                     size_t layers_len, uint8_t fanout, uint32_t max_entries, rtfilter_fault *fault);
 
+uint8_t rtfilter_engine_open_boxes(rtfilter_session *out, const rtfilter_box *boxes, size_t len, uint8_t fanout,
+                                   uint32_t max_entries, rtfilter_fault *fault);
+
+/* `ids` and `layers` have as many items as there are rows, or none. */
+uint8_t rtfilter_engine_open_rows(rtfilter_session *out, const int32_t (*rows)[4], size_t len, const int64_t *ids, size_t ids_len,
+                                  const uint8_t *layers, size_t layers_len, uint8_t fanout, uint32_t max_entries,
+                                  rtfilter_fault *fault);
+
 /* The program's line on a fault, without its line feed: as much as has room. Returns its length, 0 if the numbers are those of no
  * fault. */
 size_t rtfilter_engine_fault_message(const rtfilter_fault *fault, uint8_t *room, size_t room_len);

@@ -124,6 +124,31 @@ int rtfilter_open_arrays(rtfilter_session *out, size_t n, const int64_t *ids, co
                                        fault ? fault : &ignored);
 }
 
+int rtfilter_open_boxes(rtfilter_session *out, size_t n, const rtfilter_box *boxes, const rtfilter_settings *settings,
+                        rtfilter_fault *fault)
+{
+    rtfilter_fault ignored;
+    if (!settings)
+        settings = &defaults;
+    const int code = may_open(out, has(boxes, n), settings);
+    if (code != RTFILTER_OK)
+        return code;
+    return rtfilter_engine_open_boxes(out, SLICE(boxes), n, settings->fanout, settings->max_entries, fault ? fault : &ignored);
+}
+
+int rtfilter_open_bounds(rtfilter_session *out, size_t n, const int64_t *ids, const int32_t (*bounds)[4], const uint8_t *layers,
+                         const rtfilter_settings *settings, rtfilter_fault *fault)
+{
+    rtfilter_fault ignored;
+    if (!settings)
+        settings = &defaults;
+    const int code = may_open(out, has(bounds, n), settings);
+    if (code != RTFILTER_OK)
+        return code;
+    return rtfilter_engine_open_rows(out, bounds ? bounds : (const int32_t(*)[4])&nothing, n, SLICE(ids), ids ? n : 0, SLICE(layers), layers ? n : 0,
+                                     settings->fanout, settings->max_entries, fault ? fault : &ignored);
+}
+
 size_t rtfilter_fault_message(const rtfilter_fault *fault, char *buffer, size_t size)
 {
     static const char program[] = "rtfilter: "; /* what the program's line begins with */

@@ -1,10 +1,16 @@
-"""A plugin of pytest: a test that takes too long ends the run, with the stacks of its threads."""
+"""A plugin of pytest: a test that takes too long ends the run, with the stacks of its threads, and SIGINT isn't ignored."""
 
 import faulthandler
+import signal
 
 import pytest
 
 TOO_LONG = 300  # seconds of one test: something waits for ever
+
+
+def pytest_configure():
+    """A background job of a shell ignores SIGINT, and so would the servers that tests start and interrupt."""
+    signal.signal(signal.SIGINT, signal.default_int_handler)
 
 
 @pytest.hookimpl(hookwrapper=True)

@@ -503,10 +503,9 @@ def serve(
     log_accesses(args.log)
     with Server(listener, served_by(args, port, views), counts, ends) as server:
         threading.Thread(target=keep_loaded, args=(args, server, port, again), daemon=True).start()
-        # (not by KeyboardInterrupt: Python drops one that is raised in a finalizer, as that of a table that was exchanged)
-        signal.signal(signal.SIGINT, lambda *_: threading.Thread(target=server.shutdown).start())
         ready(server)
-        server.serve_forever()
+        with contextlib.suppress(KeyboardInterrupt):
+            server.serve_forever()
 
 
 def keep_loaded(args: argparse.Namespace, server: Server, port: int, again: int) -> None:

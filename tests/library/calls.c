@@ -196,6 +196,72 @@ static void tables_in_arrays(void)
     EXPECT(!session.at);
 }
 
+/* The same boxes as structs, and as rows in the order of other libraries. */
+static void tables_in_rows(void)
+{
+    rtfilter_box boxes[] = {{7, 0, 10, 1, 11, 3}, {-9, 5, 15, 6, 16, 0}, {INT64_MAX, 20, 30, 21, 31, 63}};
+    const int32_t bounds[][4] = {{0, 1, 10, 11}, {5, 6, 15, 16}, {20, 21, 30, 31}};
+    int64_t ids[] = {7, -9, INT64_MAX};
+    uint8_t layers[] = {3, 0, 63};
+    const rtfilter_settings two = {.fanout = 16, .max_entries = 2};
+    rtfilter_session session = RTFILTER_CLOSED;
+    rtfilter_fault fault = {99, 99, 99};
+    rtfilter_query third = rtfilter_all();
+    third.layers = (uint64_t)1 << 3;
+
+    for (int form = 0; form < 2; form++) {
+        EXPECT((form ? rtfilter_open_boxes(&session, 3, boxes, NULL, &fault)
+                     : rtfilter_open_bounds(&session, 3, ids, bounds, layers, NULL, &fault)) == RTFILTER_OK);
+        EXPECT(FINDS(&session, rtfilter_all(), -9, 7, INT64_MAX));
+        EXPECT(FINDS(&session, rtfilter_inside(0, 10, 1, 11), 7));
+        EXPECT(FINDS(&session, rtfilter_covers(15, 15, 16, 16), -9));
+        EXPECT(FINDS(&session, third, 7));
+        rtfilter_close(&session);
+    }
+    /* Without ids and layers. */
+    EXPECT(rtfilter_open_bounds(&session, 3, NULL, bounds, NULL, NULL, NULL) == RTFILTER_OK);
+    EXPECT(FINDS(&session, rtfilter_all(), 0, 1, 2));
+    EXPECT(FINDS(&session, rtfilter_covers(20, 30, 21, 31), 2));
+    EXPECT(finds(&session, third, NULL, 0, 0, NULL));
+    rtfilter_close(&session);
+    EXPECT(rtfilter_open_boxes(&session, 0, NULL, NULL, NULL) == RTFILTER_OK);
+    rtfilter_close(&session);
+    EXPECT(rtfilter_open_bounds(&session, 0, NULL, NULL, NULL, NULL, NULL) == RTFILTER_OK);
+    rtfilter_close(&session);
+
+    EXPECT(rtfilter_open_boxes(&session, 3, boxes, &two, &fault) == RTFILTER_BAD_TABLE);
+    EXPECT(fault.kind == RTFILTER_TOO_MANY && fault.record == 3 && fault.field == 0 && !session.at);
+    EXPECT(rtfilter_open_bounds(&session, 3, ids, bounds, layers, &two, &fault) == RTFILTER_BAD_TABLE);
+    EXPECT(fault.kind == RTFILTER_TOO_MANY && fault.record == 3 && fault.field == 0 && !session.at);
+    const int32_t swapped[][4] = {{0, 1, 10, 11}, {5, 6, 15, 5}};
+    EXPECT(rtfilter_open_bounds(&session, 2, ids, swapped, layers, NULL, &fault) == RTFILTER_BAD_TABLE);
+    EXPECT(fault.kind == RTFILTER_MIN_ABOVE_MAX && fault.record == 2 && fault.field == 4);
+    boxes[1].min_x = 16;
+    EXPECT(rtfilter_open_boxes(&session, 3, boxes, NULL, &fault) == RTFILTER_BAD_TABLE);
+    EXPECT(fault.kind == RTFILTER_MIN_ABOVE_MAX && fault.record == 2 && fault.field == 2);
+    boxes[1].min_x = 5;
+    boxes[2].layer = layers[2] = 64;
+    EXPECT(rtfilter_open_boxes(&session, 3, boxes, NULL, &fault) == RTFILTER_BAD_TABLE);
+    EXPECT(fault.kind == RTFILTER_OUT_OF_RANGE && fault.record == 3 && fault.field == 6);
+    EXPECT(rtfilter_open_bounds(&session, 3, ids, bounds, layers, NULL, &fault) == RTFILTER_BAD_TABLE);
+    EXPECT(fault.kind == RTFILTER_OUT_OF_RANGE && fault.record == 3 && fault.field == 6);
+    boxes[2].layer = layers[2] = 63;
+    boxes[2].id = ids[2] = 7;
+    EXPECT(rtfilter_open_boxes(&session, 3, boxes, NULL, &fault) == RTFILTER_BAD_TABLE);
+    EXPECT(fault.kind == RTFILTER_REPEATED && fault.record == 3 && fault.field == 1);
+    EXPECT(rtfilter_open_bounds(&session, 3, ids, bounds, layers, NULL, &fault) == RTFILTER_BAD_TABLE);
+    EXPECT(fault.kind == RTFILTER_REPEATED && fault.record == 3 && fault.field == 1);
+
+    EXPECT(rtfilter_open_boxes(NULL, 1, boxes, NULL, NULL) == RTFILTER_MISUSE);
+    EXPECT(rtfilter_open_boxes(&session, 1, NULL, NULL, NULL) == RTFILTER_MISUSE);
+    EXPECT(rtfilter_open_bounds(NULL, 1, ids, bounds, layers, NULL, NULL) == RTFILTER_MISUSE);
+    EXPECT(rtfilter_open_bounds(&session, 1, ids, NULL, layers, NULL, NULL) == RTFILTER_MISUSE);
+    const rtfilter_settings wrong = {.fanout = 16, .max_entries = 2, .reserved = {1}};
+    EXPECT(rtfilter_open_boxes(&session, 1, boxes, &wrong, NULL) == RTFILTER_BAD_SETTING);
+    EXPECT(rtfilter_open_bounds(&session, 1, ids, bounds, layers, &wrong, NULL) == RTFILTER_BAD_SETTING);
+    EXPECT(!session.at);
+}
+
 static void tables_in_files(void)
 {
     rtfilter_session session = RTFILTER_CLOSED;
@@ -568,6 +634,7 @@ int main(int count, char **words)
     faulty_tables();
     faults_in_words();
     tables_in_arrays();
+    tables_in_rows();
     tables_in_files();
     nothing_is_left_of_files();
     lines_and_replies();
