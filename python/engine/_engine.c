@@ -17,6 +17,7 @@ enum {
     MANY = 1 << 20,       /* answers, and bytes of a reply, that it keeps a buffer for */
     STEP = 64,            /* queries of one call of the library, at most */
     SLICE_NS = 10000000,  /* after so many nanoseconds a signal is looked for */
+    AHEAD = 12,           /* answers between the one that is filtered and the one whose box is fetched */
     MOST_VERTICES = 16,
 };
 
@@ -686,11 +687,14 @@ static void keep(finding *it, const rtfilter_answers *part)
     size_t at = 0, kept = it->kept;
     for (size_t query = 0; query <= part->done; query++) {
         const size_t end = query < part->done ? part->ends[query] : part->found;
-        for (; at < end; at++)
+        for (; at < end; at++) {
+            if (it->windows && at + AHEAD < part->found)
+                __builtin_prefetch(it->boxes + 4 * ids[at + AHEAD]);
             if (is_kept(it, ids[at])) {
                 it->places[kept] = it->place;
                 it->ids[kept++] = ids[at];
             }
+        }
         it->place += query < part->done;
     }
     it->kept = kept;

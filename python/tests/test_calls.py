@@ -41,6 +41,8 @@ def test_scores_of_65_bits() -> None:
         places, ids, scores = table.nearest_each([(far, far), (0, 0)], 2)
         assert scores.dtype == object and scores.tolist()[1] == 2 * (2**32 - 1) ** 2 and ids.tolist() == [2, 1, 2, 1]
         assert table.nearest_each([(0, 0)], 2)[2].dtype == numpy.uint64
+    with Rtfilter([(1, -(2**31), -(2**31), 0, 0)]) as table:  # 2^64 and a little
+        assert table.nearest(1, far, 92682) == [(1, 2**64 + 18533)]
 
 
 def test_lines(boxes: Rtfilter) -> None:
