@@ -8,6 +8,9 @@ PREFIX ?= /usr/local
 MAKEFLAGS += --jobs=$(shell nproc)
 export JOBS
 
+# make knows how to link a file X of X.o, and removes it when it fails: a program that somebody names has such a file beside it.
+MAKEFLAGS += --no-builtin-rules
+
 CRATES := $(shell sed -n 's/^\([a-z0-9_]*\)\( staticlib\)\?:.*/\1/p' crates.txt)
 TESTS := $(filter %_tests,$(CRATES))
 LIBRARIES := $(filter-out rtfilter $(TESTS),$(CRATES))
@@ -71,7 +74,7 @@ $(OUT)/librtfilter.so: $(OUT)/librtfilter.so.0
 # The Python package, to be used from this folder: PYTHONPATH=python.
 python: $(EXTENSION)
 
-$(EXTENSION): python/engine/_engine.c python/setup.py $(LIBRTFILTER)
+$(EXTENSION): python/engine/_engine.c python/setup.py include/rtfilter.h $(LIBRTFILTER)
 	@$(BUILD_EXTENSION)
 
 # In one step, since some may build it at once.
@@ -175,6 +178,7 @@ install-library: library
 	install -m 644 $(OUT)/librtfilter.so.0 $(LIBRTFILTER) "$(DESTDIR)$(LIBDIR)"
 	ln -sf librtfilter.so.0 "$(DESTDIR)$(LIBDIR)/librtfilter.so"
 	$(PKG_CONFIG_FILE) > "$(DESTDIR)$(LIBDIR)/pkgconfig/rtfilter.pc"
+	@[ -n "$(DESTDIR)" ] || [ "$$(id -u)" != 0 ] || [ ! -x /sbin/ldconfig ] || /sbin/ldconfig
 
 uninstall:
 	rm -f "$(DESTDIR)$(PREFIX)/bin/rtfilter" "$(COMPLETIONS)/rtfilter" "$(COMPLETIONS)/rtfilter-serve"

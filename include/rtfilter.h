@@ -23,7 +23,12 @@
  *
  * Results
  *   A function that returns int returns one of the codes below. Unless its description says otherwise, it writes to its output
- *   parameters only if it returns RTFILTER_OK. */
+ *   parameters only if it returns RTFILTER_OK. If several codes apply, RTFILTER_MISUSE comes first, then RTFILTER_BAD_PROCESSOR,
+ *   RTFILTER_BAD_SETTING, RTFILTER_BAD_FILE, and then the others.
+ *
+ * Reserved members
+ *   Set them to 0: a value other than 0 is refused, as an invalid setting or query. The helpers and RTFILTER_DEFAULTS do so. A
+ *   later library of the same soname may give them a meaning. */
 #ifndef RTFILTER_H
 #define RTFILTER_H
 
@@ -33,6 +38,13 @@
 
 #ifdef __cplusplus
 extern "C" {
+#endif
+
+/* Functions that are defined here, to be compiled into their callers. The library exports each of them too. */
+#ifdef __GNUC_GNU_INLINE__
+#define RTFILTER_INLINE extern inline
+#else
+#define RTFILTER_INLINE inline
 #endif
 
 /* The version of this header. Programs that were built with an older header run with a newer library of the same soname. */
@@ -75,8 +87,9 @@ typedef struct rtfilter_settings {
     bool header;          /* skip the first record of a CSV table */
     uint8_t fanout;       /* the most children of a node of the tree, 2 to 64 */
     uint32_t max_entries; /* the most boxes, 1 to 16777216 */
+    uint32_t reserved[6]; /* 0 */
 } rtfilter_settings;
-#define RTFILTER_DEFAULTS {false, 16, 16777216}
+#define RTFILTER_DEFAULTS {false, 16, 16777216, {0, 0, 0, 0, 0, 0}}
 
 /* The first fault of a table. Records and fields are counted from 1, a header included; the fields of a record are id, min_x,
  * max_x, min_y, max_y and layer. */
@@ -94,6 +107,11 @@ enum {
     RTFILTER_MIN_ABOVE_MAX = 5, /* a minimum is above its maximum; field is that of the minimum, 2 or 4 */
     RTFILTER_REPEATED = 6       /* an earlier record has the same id; field is 1 */
 };
+
+/* Describes a fault as the program does, as "table record 3: minimum above maximum in x". The text and a null byte are stored in
+ * `buffer`, as far as they fit into `size` bytes. Returns the length of the whole text, which is at most 80; 0 if `fault` is null or
+ * its kind is none of those above. `buffer` may be null if `size` is 0. */
+size_t rtfilter_fault_message(const rtfilter_fault *fault, char *buffer, size_t size);
 
 /* Opens a session on a CSV table in memory. The bytes aren't used after the call. An empty table is valid.
  *
@@ -114,6 +132,22 @@ int rtfilter_open_arrays(rtfilter_session *out, size_t n, const int64_t *ids, co
                          const int32_t *min_y, const int32_t *max_y, const uint8_t *layers,
                          const rtfilter_settings *settings, rtfilter_fault *fault);
 
+/* A box, as an item of an array of boxes. */
+typedef struct rtfilter_box {
+    int64_t id;
+    int32_t min_x, max_x, min_y, max_y;
+    uint8_t layer; /* 0 to 63 */
+} rtfilter_box;
+
+/* Opens a session on an array of n boxes. As rtfilter_open_arrays(). */
+int rtfilter_open_boxes(rtfilter_session *out, size_t n, const rtfilter_box *boxes, const rtfilter_settings *settings,
+                        rtfilter_fault *fault);
+
+/* Opens a session on n rows of four sides in the order of GEOS, shapely and GeoJSON: min_x, min_y, max_x, max_y. `ids` may be null:
+ * a box's id is then its index. `layers` may be null: all boxes are then on layer 0. As rtfilter_open_arrays(). */
+int rtfilter_open_bounds(rtfilter_session *out, size_t n, const int64_t *ids, const int32_t (*bounds)[4], const uint8_t *layers,
+                         const rtfilter_settings *settings, rtfilter_fault *fault);
+
 /* Opens one more session on the table of an open one, for use by another thread. The table isn't copied, and lives as long as
  * one of its sessions. `of` is in a call meanwhile. Codes: RTFILTER_OK, RTFILTER_NO_MEMORY, RTFILTER_MISUSE. */
 int rtfilter_share(rtfilter_session *of, rtfilter_session *out);
@@ -128,6 +162,7 @@ typedef struct rtfilter_info {
     uint32_t levels;                    /* the number of levels of the tree, 1 to 25; level 0 is that of the boxes */
     uint32_t level_sizes[25];           /* the number of boxes or nodes of each level, from level 0; the rest is 0 */
     int32_t min_x, max_x, min_y, max_y; /* the least box around all boxes; all 0 if there are none */
+    uint32_t reserved[9];               /* 0 */
 } rtfilter_info;
 
 /* Describes a session's table. Codes: RTFILTER_OK, RTFILTER_MISUSE. */
@@ -174,11 +209,12 @@ enum { /* orders: answers come by score, the lowest first, and at equal scores b
 #define RTFILTER_ALL_LAYERS UINT64_MAX
 #define RTFILTER_NO_LIMIT UINT64_MAX
 
-/* A query. Members that neither its region nor its order uses are ignored.
+/* A query. Members that neither its region nor its order uses are ignored. Begin with a helper below: a query of zeros has no
+ * layer, and is invalid.
  *
  * A query is invalid if its region or its order is none of those above; if a minimum of its box is above the maximum; if its
  * vertices aren't 3 to 16, aren't all among those of the call, or aren't those of a strictly convex polygon, in order round it,
- * in either direction. */
+ * in either direction; if it has no layer; or if its reserved member isn't 0. */
 typedef struct rtfilter_query {
     uint32_t region;
     uint32_t order;
@@ -187,6 +223,7 @@ typedef struct rtfilter_query {
     uint32_t radius;
     int32_t near_x, near_y;             /* the point of the order RTFILTER_NEAR */
     uint32_t first_vertex, vertices;    /* a polygon: the index of its first vertex in the call, and how many it has */
+    uint32_t reserved;                  /* 0 */
     uint64_t layers;                    /* bit k accepts the boxes on layer k */
     uint64_t limit;                     /* the most answers */
 } rtfilter_query;
@@ -208,6 +245,10 @@ typedef struct rtfilter_queries {
     size_t vertex_len;
 } rtfilter_queries;
 
+/* Why a query of a call is invalid, as "minimum above maximum". The string is static. Of a valid query it is "valid query"; if
+ * `queries` is null or has no item at `index`, it is "no query". */
+const char *rtfilter_query_message(const rtfilter_queries *queries, size_t index);
+
 /* Where rtfilter_find() stores answers: those of the first query, then those of the second, and so on, in arrays of `capacity`
  * items. */
 typedef struct rtfilter_answers {
@@ -223,8 +264,12 @@ typedef struct rtfilter_answers {
  *
  * RTFILTER_OK: all queries are answered.
  * RTFILTER_FULL: the arrays are full. The first `done` queries are answered completely, and the answers behind theirs are the
- *   first ones of the next query. rtfilter_continue() sets up the next call.
- * RTFILTER_BAD_QUERY: the query at index `done` is invalid, and those before it are answered.
+ *   first ones of the next query, which has more. rtfilter_continue() sets up the next call.
+ * RTFILTER_BAD_QUERY: the query at index `done` is invalid, and those before it are answered. To go on behind it, call again with
+ *   the queries from index done + 1 on, and a `skip` of 0.
+ *
+ * No more is searched than the arrays have room for: a call opens no more nodes than one whose queries are limited to `skip`,
+ * the room that is left, and one answer more.
  *
  * In these three cases `done`, `found`, the first `done` items of `ends`, and the first `found` items of `ids` and `scores` are
  * set; what further items hold is unspecified. RTFILTER_NO_MEMORY sets `done` and `found` to 0. Further code:
@@ -233,8 +278,8 @@ int rtfilter_find(rtfilter_session *session, const rtfilter_queries *queries, si
 
 /* Counts the boxes that each query's region and layers accept, whatever its limit. counts[i] is the number of query i.
  *
- * RTFILTER_BAD_QUERY says that the query at index *done is invalid, and those before it are counted. `done` may be null.
- * RTFILTER_NO_MEMORY sets it to 0. Further codes: RTFILTER_OK, RTFILTER_MISUSE. */
+ * RTFILTER_OK sets *done to the number of queries. RTFILTER_BAD_QUERY says that the query at index *done is invalid, and those
+ * before it are counted. `done` may be null. RTFILTER_NO_MEMORY sets it to 0. Further code: RTFILTER_MISUSE. */
 int rtfilter_count(rtfilter_session *session, const rtfilter_queries *queries, uint64_t *counts, size_t *done);
 
 /* How many nodes of the tree a find of each query opens, or a count. As rtfilter_count(). */
@@ -244,15 +289,15 @@ int rtfilter_cost_of_count(rtfilter_session *session, const rtfilter_queries *qu
 /* ---- Helpers. Each makes a query on all layers, without a limit but for rtfilter_nearest(). */
 
 /* All boxes, by id. */
-static inline rtfilter_query rtfilter_all(void)
+RTFILTER_INLINE rtfilter_query rtfilter_all(void)
 {
-    const rtfilter_query query = {RTFILTER_ALL, RTFILTER_BY_ID, 0, 0, 0, 0, 0, 0, 0, 0, 0, 0, 0, RTFILTER_ALL_LAYERS,
+    const rtfilter_query query = {RTFILTER_ALL, RTFILTER_BY_ID, 0, 0, 0, 0, 0, 0, 0, 0, 0, 0, 0, 0, RTFILTER_ALL_LAYERS,
                                   RTFILTER_NO_LIMIT};
     return query;
 }
 
 /* The boxes that overlap a window, by id. */
-static inline rtfilter_query rtfilter_window(int32_t min_x, int32_t max_x, int32_t min_y, int32_t max_y)
+RTFILTER_INLINE rtfilter_query rtfilter_window(int32_t min_x, int32_t max_x, int32_t min_y, int32_t max_y)
 {
     rtfilter_query query = rtfilter_all();
     query.region = RTFILTER_WINDOW;
@@ -264,7 +309,7 @@ static inline rtfilter_query rtfilter_window(int32_t min_x, int32_t max_x, int32
 }
 
 /* The boxes that lie within a window, by id. */
-static inline rtfilter_query rtfilter_inside(int32_t min_x, int32_t max_x, int32_t min_y, int32_t max_y)
+RTFILTER_INLINE rtfilter_query rtfilter_inside(int32_t min_x, int32_t max_x, int32_t min_y, int32_t max_y)
 {
     rtfilter_query query = rtfilter_window(min_x, max_x, min_y, max_y);
     query.region = RTFILTER_INSIDE;
@@ -272,7 +317,7 @@ static inline rtfilter_query rtfilter_inside(int32_t min_x, int32_t max_x, int32
 }
 
 /* The boxes within which a window lies, by id. */
-static inline rtfilter_query rtfilter_covers(int32_t min_x, int32_t max_x, int32_t min_y, int32_t max_y)
+RTFILTER_INLINE rtfilter_query rtfilter_covers(int32_t min_x, int32_t max_x, int32_t min_y, int32_t max_y)
 {
     rtfilter_query query = rtfilter_window(min_x, max_x, min_y, max_y);
     query.region = RTFILTER_COVERS;
@@ -280,7 +325,7 @@ static inline rtfilter_query rtfilter_covers(int32_t min_x, int32_t max_x, int32
 }
 
 /* The boxes at most `radius` from (x, y), the nearest first. */
-static inline rtfilter_query rtfilter_circle(int32_t x, int32_t y, uint32_t radius)
+RTFILTER_INLINE rtfilter_query rtfilter_circle(int32_t x, int32_t y, uint32_t radius)
 {
     rtfilter_query query = rtfilter_all();
     query.region = RTFILTER_CIRCLE;
@@ -292,7 +337,7 @@ static inline rtfilter_query rtfilter_circle(int32_t x, int32_t y, uint32_t radi
 }
 
 /* The boxes that overlap a convex polygon, by id. Its vertices are those of the call from index `first_vertex` on. */
-static inline rtfilter_query rtfilter_polygon(uint32_t first_vertex, uint32_t vertices)
+RTFILTER_INLINE rtfilter_query rtfilter_polygon(uint32_t first_vertex, uint32_t vertices)
 {
     rtfilter_query query = rtfilter_all();
     query.region = RTFILTER_POLYGON;
@@ -302,7 +347,7 @@ static inline rtfilter_query rtfilter_polygon(uint32_t first_vertex, uint32_t ve
 }
 
 /* The k boxes nearest to (x, y), the nearest first. */
-static inline rtfilter_query rtfilter_nearest(int32_t x, int32_t y, uint64_t k)
+RTFILTER_INLINE rtfilter_query rtfilter_nearest(int32_t x, int32_t y, uint64_t k)
 {
     rtfilter_query query = rtfilter_all();
     query.order = RTFILTER_NEAR;
@@ -315,7 +360,7 @@ static inline rtfilter_query rtfilter_nearest(int32_t x, int32_t y, uint64_t k)
 /* Sets `queries` and *skip up for the call of rtfilter_find() that continues where one returned RTFILTER_FULL; its answers are
  * then taken from the arrays, or have been. `queries`, *skip and `answers` are those of that call. Where it returned RTFILTER_OK,
  * no queries are left. */
-static inline void rtfilter_continue(rtfilter_queries *queries, size_t *skip, const rtfilter_answers *answers)
+RTFILTER_INLINE void rtfilter_continue(rtfilter_queries *queries, size_t *skip, const rtfilter_answers *answers)
 {
     const size_t end = answers->done && answers->ends ? answers->ends[answers->done - 1] : 0;
     if (answers->done < queries->len && end == 0 && *skip > 0) {
@@ -324,8 +369,10 @@ static inline void rtfilter_continue(rtfilter_queries *queries, size_t *skip, co
         return;
     }
     *skip = answers->done < queries->len ? answers->found - end : 0;
-    queries->queries += answers->done;
-    queries->len -= answers->done;
+    if (answers->done > 0) { /* (there may be no queries, and then no array) */
+        queries->queries += answers->done;
+        queries->len -= answers->done;
+    }
 }
 
 #ifdef __cplusplus

@@ -4,9 +4,11 @@
 
 #include "rtfilter.h"
 
+#include <algorithm>
 #include <cerrno>
 #include <cstddef>
 #include <cstdint>
+#include <cstring>
 #include <stdexcept>
 #include <string>
 #include <string_view>
@@ -15,18 +17,15 @@
 
 namespace rtfilter {
 
-// What every failed call throws.
+// What every failed call throws. what() says what is wrong: of a table the record and the field, of queries the index and the reason.
 class Error : public std::runtime_error {
 public:
-    Error(int code, const rtfilter_fault &fault, std::size_t query, int cause)
-        : std::runtime_error(rtfilter_message(code)), code(code), fault(fault), query(query), cause(cause)
-    {
-    }
+    Error(const std::string &text, int code_of_call) : std::runtime_error(text), code(code_of_call) {}
 
-    int code;             // RTFILTER_BAD_SETTING or another
-    rtfilter_fault fault; // of RTFILTER_BAD_TABLE: what is wrong with the table
-    std::size_t query;    // of RTFILTER_BAD_QUERY: the index of the invalid query
-    int cause;            // of RTFILTER_BAD_FILE: errno
+    int code;                  // RTFILTER_BAD_SETTING or another
+    rtfilter_fault fault = {}; // of RTFILTER_BAD_TABLE: what is wrong with the table
+    std::size_t query = 0;     // of RTFILTER_BAD_QUERY: the index of the invalid query
+    int cause = 0;             // of RTFILTER_BAD_FILE: errno
 };
 
 // A box of a table.
@@ -34,6 +33,14 @@ struct Box {
     std::int64_t id;
     std::int32_t min_x, max_x, min_y, max_y;
     std::uint8_t layer = 0;
+};
+
+// Boxes in arrays of `len` items each. Without layers all boxes are on layer 0.
+struct Columns {
+    std::size_t len;
+    const std::int64_t *ids;
+    const std::int32_t *min_x, *max_x, *min_y, *max_y;
+    const std::uint8_t *layers = nullptr;
 };
 
 // The answers of several queries: those of query i are the items of `ids` and `scores` from ends[i - 1], or 0, to ends[i].
@@ -51,43 +58,43 @@ struct Reply {
 using Queries = std::vector<rtfilter_query>;
 using Vertices = std::vector<rtfilter_point>;
 
-// An open session, for one thread at a time: share() makes one for another thread.
+// An open session, for one thread at a time: share() makes one for another thread. No call changes the table; none is const, since
+// each uses the session's working memory, so that two threads may not make them at once.
 class Session {
 public:
     static Session of_bytes(std::string_view table, const rtfilter_settings &settings = RTFILTER_DEFAULTS)
     {
-        Session it;
-        rtfilter_fault fault = {};
-        check(rtfilter_open_bytes(&it.session, table.data(), table.size(), &settings, &fault), fault);
-        return it;
+        return opened([&](rtfilter_session *out, rtfilter_fault *fault) {
+            return rtfilter_open_bytes(out, table.data(), table.size(), &settings, fault);
+        });
     }
 
     static Session of_file(const std::string &name, const rtfilter_settings &settings = RTFILTER_DEFAULTS)
     {
-        Session it;
-        rtfilter_fault fault = {};
-        check(rtfilter_open_file(&it.session, name.c_str(), &settings, &fault), fault);
-        return it;
+        if (name.find('\0') != std::string::npos)
+            throw of_file_error(EINVAL);
+        return opened([&](rtfilter_session *out, rtfilter_fault *fault) {
+            return rtfilter_open_file(out, name.c_str(), &settings, fault);
+        });
+    }
+
+    static Session of_columns(const Columns &boxes, const rtfilter_settings &settings = RTFILTER_DEFAULTS)
+    {
+        return opened([&](rtfilter_session *out, rtfilter_fault *fault) {
+            return rtfilter_open_arrays(out, boxes.len, boxes.ids, boxes.min_x, boxes.max_x, boxes.min_y, boxes.max_y,
+                                        boxes.layers, &settings, fault);
+        });
     }
 
     static Session of_boxes(const std::vector<Box> &boxes, const rtfilter_settings &settings = RTFILTER_DEFAULTS)
     {
-        Session it;
-        rtfilter_fault fault = {};
-        std::vector<std::int64_t> ids;
-        std::vector<std::int32_t> sides[4];
-        std::vector<std::uint8_t> layers;
-        for (const Box &box : boxes) {
-            ids.push_back(box.id);
-            sides[0].push_back(box.min_x);
-            sides[1].push_back(box.max_x);
-            sides[2].push_back(box.min_y);
-            sides[3].push_back(box.max_y);
-            layers.push_back(box.layer);
-        }
-        check(rtfilter_open_arrays(&it.session, boxes.size(), ids.data(), sides[0].data(), sides[1].data(), sides[2].data(),
-                                   sides[3].data(), layers.data(), &settings, &fault), fault);
-        return it;
+        std::vector<rtfilter_box> in_c;
+        in_c.reserve(boxes.size());
+        for (const Box &it : boxes)
+            in_c.push_back({it.id, it.min_x, it.max_x, it.min_y, it.max_y, it.layer});
+        return opened([&](rtfilter_session *out, rtfilter_fault *fault) {
+            return rtfilter_open_boxes(out, in_c.size(), in_c.data(), &settings, fault);
+        });
     }
 
     Session(Session &&other) noexcept : session{std::exchange(other.session.at, nullptr)} {}
@@ -101,9 +108,7 @@ public:
     // One more session of the same table.
     Session share()
     {
-        Session it;
-        check(rtfilter_share(&session, &it.session));
-        return it;
+        return opened([&](rtfilter_session *out, rtfilter_fault *) { return rtfilter_share(&session, out); });
     }
 
     rtfilter_info info()
@@ -121,7 +126,7 @@ public:
         const int code = rtfilter_ask(&session, lines.data(), lines.size(), first, sizeof first, &len);
         if (code != RTFILTER_FAULTY_LINE)
             check(code);
-        Reply reply{std::string(first, len < sizeof first ? len : sizeof first), code == RTFILTER_FAULTY_LINE};
+        Reply reply{std::string(first, std::min(len, sizeof first)), code == RTFILTER_FAULTY_LINE};
         if (len > sizeof first) {
             reply.text.resize(len);
             check(rtfilter_reply(&session, sizeof first, &reply.text[sizeof first], len - sizeof first, &copied));
@@ -136,21 +141,25 @@ public:
     {
         Answers all;
         all.ends.resize(queries.size());
-        rtfilter_queries rest = {queries.data(), queries.size(), vertices.data(), vertices.size()};
-        std::size_t skip = 0, found = 0, first = 0;
-        for (int code = RTFILTER_FULL; code == RTFILTER_FULL;) {
-            all.ids.resize(all.ids.size() < 256 ? 256 : 2 * all.ids.size());
-            all.scores.resize(scores ? all.ids.size() : 0);
-            rtfilter_answers part = {all.ids.data() + found, scores ? all.scores.data() + found : nullptr,
-                                     all.ids.size() - found, all.ends.data() + first, 0, 0};
-            code = rtfilter_find(&session, &rest, skip, &part);
+        const rtfilter_queries every = {queries.data(), queries.size(), vertices.data(), vertices.size()};
+        rtfilter_queries rest = every;
+        std::size_t skip = 0, found = 0, first = 0, room = std::max<std::size_t>(256, 32 * queries.size());
+        for (;;) {
+            all.ids.resize(found + room);
+            all.scores.resize(scores ? found + room : 0);
+            rtfilter_answers part = {all.ids.data() + found, scores ? all.scores.data() + found : nullptr, room,
+                                     all.ends.data() + first, 0, 0};
+            const int code = rtfilter_find(&session, &rest, skip, &part);
             if (code != RTFILTER_FULL)
-                check(code, {}, first + part.done);
+                check(code, every, first + part.done);
             rtfilter_continue(&rest, &skip, &part);
             for (std::size_t i = 0; i < part.done; i++)
                 all.ends[first + i] += found;
             found += part.found;
             first += part.done;
+            if (code == RTFILTER_OK)
+                break;
+            room = left(rest, every, first) - skip;
         }
         all.ids.resize(found);
         all.scores.resize(scores ? found : 0);
@@ -163,7 +172,7 @@ public:
         return find_each({query}, vertices).ids;
     }
 
-    // How many boxes each query accepts.
+    // How many boxes each query accepts, whatever its limit.
     std::vector<std::uint64_t> count_each(const Queries &queries, const Vertices &vertices = {})
     {
         return measure(rtfilter_count, queries, vertices);
@@ -185,22 +194,72 @@ public:
     }
 
 private:
+    using Measure = int (*)(rtfilter_session *, const rtfilter_queries *, std::uint64_t *, std::size_t *);
+
     Session() = default;
 
-    static void check(int code, const rtfilter_fault &fault = {}, std::size_t query = 0)
+    template <class Call> static Session opened(Call call)
     {
-        if (code != RTFILTER_OK)
-            throw Error(code, fault, query, errno);
+        Session it;
+        rtfilter_fault fault = {};
+        const int code = call(&it.session, &fault);
+        if (code == RTFILTER_BAD_TABLE) {
+            char text[128];
+            rtfilter_fault_message(&fault, text, sizeof text);
+            Error error(text, code);
+            error.fault = fault;
+            throw error;
+        }
+        if (code == RTFILTER_BAD_FILE)
+            throw of_file_error(errno);
+        check(code);
+        return it;
     }
 
-    std::vector<std::uint64_t> measure(int (*call)(rtfilter_session *, const rtfilter_queries *, std::uint64_t *, std::size_t *),
-                                       const Queries &queries, const Vertices &vertices)
+    static Error of_file_error(int cause)
+    {
+        const std::string text = rtfilter_message(RTFILTER_BAD_FILE);
+        Error error(text + ": " + std::strerror(cause), RTFILTER_BAD_FILE);
+        error.cause = cause;
+        return error;
+    }
+
+    static void check(int code)
+    {
+        if (code != RTFILTER_OK)
+            throw Error(rtfilter_message(code), code);
+    }
+
+    // Throws what a call about queries returned at the one at an index.
+    static void check(int code, const rtfilter_queries &queries, std::size_t index)
+    {
+        if (code != RTFILTER_BAD_QUERY)
+            return check(code);
+        const std::string text = rtfilter_message(code);
+        Error error(text + " " + std::to_string(index) + ": " + rtfilter_query_message(&queries, index), code);
+        error.query = index;
+        throw error;
+    }
+
+    // How many answers the rest of queries have in all; it begins at an index.
+    std::size_t left(const rtfilter_queries &rest, const rtfilter_queries &every, std::size_t first)
+    {
+        std::vector<std::uint64_t> counts(rest.len);
+        std::size_t done = 0, sum = 0;
+        const int code = rtfilter_count(&session, &rest, counts.data(), &done);
+        check(code, every, first + done);
+        for (std::size_t i = 0; i < rest.len; i++)
+            sum += std::min(counts[i], rest.queries[i].limit);
+        return sum;
+    }
+
+    std::vector<std::uint64_t> measure(Measure call, const Queries &queries, const Vertices &vertices)
     {
         const rtfilter_queries all = {queries.data(), queries.size(), vertices.data(), vertices.size()};
         std::vector<std::uint64_t> measured(queries.size());
         std::size_t done = 0;
         const int code = call(&session, &all, measured.data(), &done);
-        check(code, {}, done);
+        check(code, all, done);
         return measured;
     }
 

@@ -25,6 +25,18 @@ uint8_t rtfilter_engine_open_arrays(rtfilter_session *out, const int64_t *ids, s
                                     size_t min_y_len, const int32_t *max_y, size_t max_y_len, const uint8_t *layers,
                                     size_t layers_len, uint8_t fanout, uint32_t max_entries, rtfilter_fault *fault);
 
+uint8_t rtfilter_engine_open_boxes(rtfilter_session *out, const rtfilter_box *boxes, size_t len, uint8_t fanout,
+                                   uint32_t max_entries, rtfilter_fault *fault);
+
+/* `ids` and `layers` have as many items as there are rows, or none. */
+uint8_t rtfilter_engine_open_rows(rtfilter_session *out, const int32_t (*rows)[4], size_t len, const int64_t *ids, size_t ids_len,
+                                  const uint8_t *layers, size_t layers_len, uint8_t fanout, uint32_t max_entries,
+                                  rtfilter_fault *fault);
+
+/* The program's line on a fault, without its line feed: as much as has room. Returns its length, 0 if the numbers are those of no
+ * fault. */
+size_t rtfilter_engine_fault_message(const rtfilter_fault *fault, uint8_t *room, size_t room_len);
+
 uint8_t rtfilter_engine_share(rtfilter_session *of, rtfilter_session *out);
 
 void rtfilter_engine_close(rtfilter_session *it);
@@ -42,6 +54,9 @@ void rtfilter_engine_info(rtfilter_session *by, struct rtfilter_engine_about *ab
 uint8_t rtfilter_engine_find(rtfilter_session *by, const rtfilter_query *queries, size_t len, const rtfilter_point *vertices,
                              size_t vertices_len, size_t skip, size_t *ends, size_t ends_len, int64_t *ids, size_t ids_len,
                              rtfilter_score *scores, size_t scores_len, struct rtfilter_engine_progress *progress);
+
+/* Why a query is invalid, as a number: those of crates/rtfilter_c/src/invalid.rt. */
+uint32_t rtfilter_engine_invalid(const rtfilter_query *query, const rtfilter_point *vertices, size_t vertices_len);
 
 /* A measure of queries, one number for each. */
 typedef uint8_t rtfilter_engine_measure(rtfilter_session *by, const rtfilter_query *queries, size_t len,

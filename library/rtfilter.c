@@ -5,6 +5,7 @@
 #include <errno.h>
 #include <fcntl.h>
 #include <stdint.h>
+#include <string.h>
 #include <sys/mman.h>
 #include <sys/stat.h>
 #include <unistd.h>
@@ -65,20 +66,44 @@ const char *rtfilter_message(int code)
     }
 }
 
+/* The helpers of the header, for callers that can't compile it. */
+extern inline rtfilter_query rtfilter_all(void);
+extern inline rtfilter_query rtfilter_window(int32_t min_x, int32_t max_x, int32_t min_y, int32_t max_y);
+extern inline rtfilter_query rtfilter_inside(int32_t min_x, int32_t max_x, int32_t min_y, int32_t max_y);
+extern inline rtfilter_query rtfilter_covers(int32_t min_x, int32_t max_x, int32_t min_y, int32_t max_y);
+extern inline rtfilter_query rtfilter_circle(int32_t x, int32_t y, uint32_t radius);
+extern inline rtfilter_query rtfilter_polygon(uint32_t first_vertex, uint32_t vertices);
+extern inline rtfilter_query rtfilter_nearest(int32_t x, int32_t y, uint64_t k);
+extern inline void rtfilter_continue(rtfilter_queries *queries, size_t *skip, const rtfilter_answers *answers);
+
 /* ---- Tables and sessions */
 
 static const rtfilter_settings defaults = RTFILTER_DEFAULTS;
+
+/* The code of what has to hold before a table is read. */
+static int may_open(const rtfilter_session *out, bool has_table, const rtfilter_settings *settings)
+{
+    if (!is_closed(out) || !has_table)
+        return RTFILTER_MISUSE;
+    if (!has_processor())
+        return RTFILTER_BAD_PROCESSOR;
+    for (size_t i = 0; i < sizeof settings->reserved / sizeof settings->reserved[0]; i++)
+        if (settings->reserved[i] != 0)
+            return RTFILTER_BAD_SETTING;
+    if (settings->fanout < 2 || settings->fanout > 64 || settings->max_entries < 1 || settings->max_entries > 16777216)
+        return RTFILTER_BAD_SETTING;
+    return RTFILTER_OK;
+}
 
 int rtfilter_open_bytes(rtfilter_session *out, const void *table, size_t len, const rtfilter_settings *settings,
                         rtfilter_fault *fault)
 {
     rtfilter_fault ignored;
-    if (!is_closed(out) || !has(table, len))
-        return RTFILTER_MISUSE;
-    if (!has_processor())
-        return RTFILTER_BAD_PROCESSOR;
     if (!settings)
         settings = &defaults;
+    const int code = may_open(out, has(table, len), settings);
+    if (code != RTFILTER_OK)
+        return code;
     return rtfilter_engine_open_bytes(out, SLICE(table), len, settings->header, settings->fanout, settings->max_entries,
                                       fault ? fault : &ignored);
 }
@@ -88,15 +113,54 @@ int rtfilter_open_arrays(rtfilter_session *out, size_t n, const int64_t *ids, co
                          const rtfilter_settings *settings, rtfilter_fault *fault)
 {
     rtfilter_fault ignored;
-    if (!is_closed(out) || !has(ids, n) || !has(min_x, n) || !has(max_x, n) || !has(min_y, n) || !has(max_y, n))
-        return RTFILTER_MISUSE;
-    if (!has_processor())
-        return RTFILTER_BAD_PROCESSOR;
     if (!settings)
         settings = &defaults;
+    const bool has_sides = has(min_x, n) && has(max_x, n) && has(min_y, n) && has(max_y, n);
+    const int code = may_open(out, has(ids, n) && has_sides, settings);
+    if (code != RTFILTER_OK)
+        return code;
     return rtfilter_engine_open_arrays(out, SLICE(ids), n, SLICE(min_x), n, SLICE(max_x), n, SLICE(min_y), n, SLICE(max_y), n,
                                        SLICE(layers), layers ? n : 0, settings->fanout, settings->max_entries,
                                        fault ? fault : &ignored);
+}
+
+int rtfilter_open_boxes(rtfilter_session *out, size_t n, const rtfilter_box *boxes, const rtfilter_settings *settings,
+                        rtfilter_fault *fault)
+{
+    rtfilter_fault ignored;
+    if (!settings)
+        settings = &defaults;
+    const int code = may_open(out, has(boxes, n), settings);
+    if (code != RTFILTER_OK)
+        return code;
+    return rtfilter_engine_open_boxes(out, SLICE(boxes), n, settings->fanout, settings->max_entries, fault ? fault : &ignored);
+}
+
+int rtfilter_open_bounds(rtfilter_session *out, size_t n, const int64_t *ids, const int32_t (*bounds)[4], const uint8_t *layers,
+                         const rtfilter_settings *settings, rtfilter_fault *fault)
+{
+    rtfilter_fault ignored;
+    if (!settings)
+        settings = &defaults;
+    const int code = may_open(out, has(bounds, n), settings);
+    if (code != RTFILTER_OK)
+        return code;
+    return rtfilter_engine_open_rows(out, bounds ? bounds : (const int32_t(*)[4])&nothing, n, SLICE(ids), ids ? n : 0, SLICE(layers), layers ? n : 0,
+                                     settings->fanout, settings->max_entries, fault ? fault : &ignored);
+}
+
+size_t rtfilter_fault_message(const rtfilter_fault *fault, char *buffer, size_t size)
+{
+    static const char program[] = "rtfilter: "; /* what the program's line begins with */
+    uint8_t line[128];
+    const size_t begin = sizeof program - 1, end = fault ? rtfilter_engine_fault_message(fault, line, sizeof line) : 0;
+    const size_t len = end > begin ? end - begin : 0;
+    if (buffer && size > 0) {
+        const size_t copied = len < size ? len : size - 1;
+        memcpy(buffer, line + begin, copied);
+        buffer[copied] = '\0';
+    }
+    return len;
 }
 
 /* Bytes of a file, in a map of their own: a map of the file itself would end the process if the file were cut off meanwhile. */
@@ -151,12 +215,13 @@ static int open_to_read(const char *name)
 int rtfilter_open_file(rtfilter_session *out, const char *name, const rtfilter_settings *settings, rtfilter_fault *fault)
 {
     struct contents table = {NULL, 0, 0};
-    if (!is_closed(out) || !name)
-        return RTFILTER_MISUSE;
+    int code = may_open(out, name, settings ? settings : &defaults);
+    if (code != RTFILTER_OK)
+        return code;
     const int file = open_to_read(name);
     if (file < 0)
         return RTFILTER_BAD_FILE;
-    int code = read_all(file, &table);
+    code = read_all(file, &table);
     const int cause = errno;
     close(file);
     if (code == RTFILTER_OK)
@@ -227,6 +292,24 @@ int rtfilter_forget(rtfilter_session *session)
 static bool are_there(const rtfilter_queries *queries)
 {
     return queries && has(queries->queries, queries->len) && has(queries->vertices, queries->vertex_len);
+}
+
+const char *rtfilter_query_message(const rtfilter_queries *queries, size_t index)
+{
+    static const char *const messages[] = {
+        "valid query",
+        "unknown region",
+        "unknown order",
+        "minimum above maximum",
+        "a polygon has 3 to 16 vertices",
+        "vertices beyond those of the call",
+        "polygon not strictly convex",
+        "no layer",
+        "reserved member isn't 0",
+    };
+    if (!are_there(queries) || index >= queries->len)
+        return "no query";
+    return messages[rtfilter_engine_invalid(&queries->queries[index], SLICE(queries->vertices), queries->vertex_len)];
 }
 
 int rtfilter_find(rtfilter_session *session, const rtfilter_queries *queries, size_t skip, rtfilter_answers *answers)

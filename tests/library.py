@@ -37,6 +37,17 @@ WARNINGS = ["-Wall", "-Wextra", "-Wpedantic", "-Werror"]
 LONGEST = 300  # seconds of one command
 AT_ONCE = 2  # checks
 LINES, TABLES = 100_000, 20  # random lines in all, over so many tables
+INSTRUCTIONS = {  # of a query in C, by its kind (tests/library/queries.c), how many are asked, and the room for answers
+    ("window", 300, 64): 4445,
+    ("window on", 300, 64): 8901,
+    ("covers", 300, 64): 2800,
+    ("circle", 300, 64): 12673,
+    ("nearest", 300, 64): 9349,
+    ("polygon", 300, 64): 24421,
+    ("large window", 10, 10): 101376,
+    ("all near", 10, 10): 10297,
+}
+MORE = 0.1  # so much more, or less, is refused
 
 OK, FAULTY_LINE, BAD_TABLE, FULL, NO_MEMORY, BAD_QUERY = 0, 1, 3, 5, 6, 7
 FAULTS = [  # kinds of a table's faults, in words of the program
@@ -303,14 +314,15 @@ class Checks:
         for compiler, language, standards, header in compilers:
             wants(compiler)
             for standard in standards:
-                run(compiler, "-x", language, f"-std={standard}", *WARNINGS, f"-I{self.prefix}/include", "-include", header, "-c",
+                more = ["-Wshadow", "-Wconversion"] if header.endswith("hpp") else []
+                run(compiler, "-x", language, f"-std={standard}", *WARNINGS, *more, f"-I{self.prefix}/include", "-include", header, "-c",
                     "-o", os.devnull, empty)  # fmt: skip
 
     def check_names(self):
         """It has the public names of its header, and no other; it needs the C library alone, and no text of it is written to."""
         wants("nm", "readelf")
         library = self.prefix / "lib/librtfilter.so.0"
-        declared = set(re.findall(r"^(?:int|void|const char \*) ?\*?(rtfilter_\w+)\(", HEADER, re.MULTILINE))
+        declared = set(re.findall(r"^(?:RTFILTER_INLINE )?(?:int|void|size_t|rtfilter_query|const char \*) ?(rtfilter_\w+)\(", HEADER, re.MULTILINE))
         exported = {line.split()[-1] for line in run("nm", "-D", "--defined-only", library).splitlines()}
         same(exported, {f"{name}@@RTFILTER_0" for name in declared} | {"RTFILTER_0"})
         about = run("readelf", "--dynamic", library)
@@ -326,6 +338,7 @@ class Checks:
         wants("pkg-config")
         words = {**os.environ, "PKG_CONFIG_PATH": f"{self.prefix}/lib/pkgconfig"}
         same(run("pkg-config", "--modversion", "rtfilter", env=words).strip(), version)
+        same(re.search(r'^version = "(.*)"$', (ROOT / "bindings/rust/Cargo.toml").read_text(), re.MULTILINE)[1], version)
 
     def check_uninstall(self):
         """It leaves nothing of an installation."""
@@ -441,6 +454,25 @@ class Checks:
             for result in found:
                 same(result, (status, said, b""), f"{call}, error {error}")
 
+    def check_allocations(self):
+        """No find, count or cost allocates memory; a reply does if none before it was as long."""
+        run(self.built("allocations.c"))
+
+    def check_instructions(self):
+        """What queries in numbers take. Work that is done twice, or for answers that have no room, shows here alone."""
+        wants("valgrind")
+        program, found = self.built("queries.c"), {}
+        for (kind, number, room), stored in INSTRUCTIONS.items():
+            one, many = (self.instructions(program, kind, count, room) for count in (0, number))
+            found[kind] = (many - one) // number
+        wrong = {kind: (found[kind], stored) for (kind, _, _), stored in INSTRUCTIONS.items()
+                 if abs(found[kind] - stored) > MORE * stored}  # fmt: skip
+        same(wrong, {}, f"instructions found and stored; all found: {found}")
+
+    def instructions(self, *words):
+        said = run("valgrind", "--tool=callgrind", "--callgrind-out-file=/dev/null", *words)
+        return int(re.search(r"Collected : (\d+)", said)[1])
+
     # - answers beside the program's
 
     def program_on(self, table, queries, fanout, at):
@@ -525,7 +557,7 @@ class Checks:
                 same(in_arrays.info(), info)
                 sizes = reading.level_sizes(len(rows), fanout)
                 hull = [pick(sides) for pick, sides in zip((min, max, min, max), [*zip(*expected.values())])] or [0] * 4
-                same(info, dict(zip(info, (len(rows), len(sizes), sizes + [0] * (25 - len(sizes)), *hull))))
+                same(info, dict(zip(info, (len(rows), len(sizes), sizes + [0] * (25 - len(sizes)), *hull, [0] * 9))))
                 lines = b"".join(b"cost find %b\n" % b" ".join(random_runs.some_region(chance)) for _ in range(50))
                 same(in_arrays.ask(lines, 4096), in_bytes.ask(lines, 4096))
         if not 50 < faults < 150:
@@ -576,7 +608,7 @@ class Checks:
         program, printed = self.page("bindings/go/README.md", "go")
         user.mkdir()
         (user / "main.go").write_text(program)
-        used = "rtfilter.invalid/rtfilter"
+        used = "github.com/rtfilter/rtfilter/bindings/go"
         (user / "go.mod").write_text(f"module page\ngo 1.19\nrequire {used} v0.0.0\nreplace {used} => ../go\n")
         same(run("go", "run", ".", cwd=user, env=words), printed)
 

@@ -1,12 +1,18 @@
-"""A plugin of pytest: a test that takes too long ends the run, with the stacks of its threads."""
+"""A plugin of pytest: a test that takes too long ends the run, with the stacks of its threads, and SIGINT isn't ignored."""
 
 import faulthandler
 import os
+import signal
 
 import pytest
 
 TOO_LONG = 300  # seconds of one test: something waits for ever
 ERRORS = open(os.dup(2), "w", encoding="utf-8")  # standard error, before pytest captures it
+
+
+def pytest_configure():
+    """A background job of a shell ignores SIGINT, and so would the servers that tests start and interrupt."""
+    signal.signal(signal.SIGINT, signal.default_int_handler)
 
 
 @pytest.hookimpl(hookwrapper=True)

@@ -25,7 +25,7 @@ CALLER_OR_CALLED = re.compile(r"^c?fn=(?:\(\d+\) ?)?(.+)$")
 
 def build(tree):
     """The program, built in a copy of this tree: nothing that is proved is proved again."""
-    shutil.copytree(ROOT / "crates", tree / "crates", ignore=shutil.ignore_patterns("must-fail", "incremental"))
+    shutil.copytree(ROOT / "crates", tree / "crates", ignore=shutil.ignore_patterns("edits", "incremental"))
     text = (ROOT / "crates.txt").read_text(encoding="utf-8")
     (tree / "crates.txt").write_text(text.replace("\nrtfilter:", "\nrtfilter backend=rattle opt_level=0:"))
     crate = tree / "crates/rtfilter"

@@ -1,3 +1,3 @@
-module rtfilter.invalid/rtfilter
+module github.com/rtfilter/rtfilter/bindings/go
 
 go 1.19

@@ -5,6 +5,7 @@ import "C"
 
 import (
 	"math"
+	"math/big"
 	"unsafe"
 )
 
@@ -33,68 +34,85 @@ type Columns struct {
 	Layers                 []uint8
 }
 
-// A Fault is the first fault of a table: its kind, and the record and field, as rtfilter.h numbers them.
-type Fault struct {
-	Kind, Record uint32
-	Field        uint64
-}
-
 // Info is what a table holds.
 type Info struct {
 	Boxes, Levels          uint32
-	LevelSizes             [25]uint32
-	MinX, MaxX, MinY, MaxY int32
+	LevelSizes             [25]uint32 // the number of boxes or nodes of each level, from that of the boxes up; the rest is 0
+	MinX, MaxX, MinY, MaxY int32      // the least box around all boxes; all 0 if there are none
+	_                      [9]uint32
 }
 
 // A Point is a vertex of a polygon.
 type Point struct{ X, Y int32 }
 
-// A Score is High * 2^64 + Low.
+// A Score is High * 2^64 + Low. The greatest score has 65 bits, so that High is 0 or 1.
 type Score struct{ Low, High uint64 }
 
-// A Query has the fields of rtfilter_query. The zero Query accepts no layer: begin with All, or a function below.
+// Less says whether a score is below another one.
+func (it Score) Less(other Score) bool {
+	return it.High < other.High || it.High == other.High && it.Low < other.Low
+}
+
+// Big returns the score as one number.
+func (it Score) Big() *big.Int {
+	high := new(big.Int).SetUint64(it.High)
+	return high.Add(high.Lsh(high, 64), new(big.Int).SetUint64(it.Low))
+}
+
+// A Region says which boxes a query accepts.
+type Region uint32
+
+// The regions of a Query. A box is accepted if ..
+const (
+	RegionAll     Region = C.RTFILTER_ALL     // always
+	RegionWindow  Region = C.RTFILTER_WINDOW  // it overlaps the box of the query
+	RegionInside  Region = C.RTFILTER_INSIDE  // it lies within the box of the query
+	RegionCovers  Region = C.RTFILTER_COVERS  // the box of the query lies within it
+	RegionCircle  Region = C.RTFILTER_CIRCLE  // its distance from (X, Y) is at most Radius
+	RegionPolygon Region = C.RTFILTER_POLYGON // it overlaps the convex polygon
+)
+
+// An Order is that of answers: by score, the lowest first, and at equal scores by id.
+type Order uint32
+
+// The orders of a Query.
+const (
+	OrderByID     Order = C.RTFILTER_BY_ID    // all scores are 0
+	OrderNear     Order = C.RTFILTER_NEAR     // the score is the square of the distance from (NearX, NearY)
+	OrderSmallest Order = C.RTFILTER_SMALLEST // the score is the area
+)
+
+// A Query has the members of rtfilter_query. The zero Query has no layer, and is invalid: begin with All, or a function below.
 type Query struct {
-	Region, Order          uint32
+	Region                 Region
+	Order                  Order
 	MinX, MaxX, MinY, MaxY int32
 	X, Y                   int32
 	Radius                 uint32
 	NearX, NearY           int32
 	FirstVertex, Vertices  uint32
+	_                      uint32
 	Layers, Limit          uint64
 }
-
-// Answers are those of several queries: those of query i end before Ends[i], where those of the next begin.
-type Answers struct {
-	IDs    []int64
-	Scores []Score
-	Ends   []uint64
-}
-
-// The regions and orders of a Query.
-const (
-	RegionAll, RegionWindow, RegionInside, RegionCovers, RegionCircle, RegionPolygon = 0, 1, 2, 3, 4, 5
-
-	OrderByID, OrderNear, OrderSmallest = 0, 1, 2
-)
 
 // All accepts all boxes, by id.
 func All() Query { return Query{Layers: math.MaxUint64, Limit: math.MaxUint64} }
 
-// Window accepts the boxes that overlap a window.
+// Window accepts the boxes that overlap a window, by id.
 func Window(minX, maxX, minY, maxY int32) Query {
 	it := All()
 	it.Region, it.MinX, it.MaxX, it.MinY, it.MaxY = RegionWindow, minX, maxX, minY, maxY
 	return it
 }
 
-// Inside accepts the boxes that lie within a window.
+// Inside accepts the boxes that lie within a window, by id.
 func Inside(minX, maxX, minY, maxY int32) Query {
 	it := Window(minX, maxX, minY, maxY)
 	it.Region = RegionInside
 	return it
 }
 
-// Covers accepts the boxes within which a window lies.
+// Covers accepts the boxes within which a window lies, by id.
 func Covers(minX, maxX, minY, maxY int32) Query {
 	it := Window(minX, maxX, minY, maxY)
 	it.Region = RegionCovers
@@ -108,22 +126,39 @@ func Circle(x, y int32, radius uint32) Query {
 	return it
 }
 
-// Polygon accepts the boxes that overlap a convex polygon: the vertices of the call from an index on.
+// Polygon accepts the boxes that overlap a convex polygon, by id: the vertices of the call from an index on.
 func Polygon(firstVertex, vertices uint32) Query {
 	it := All()
 	it.Region, it.FirstVertex, it.Vertices = RegionPolygon, firstVertex, vertices
 	return it
 }
 
-// Nearest accepts the k boxes nearest to (x, y).
+// Nearest accepts the k boxes nearest to (x, y), the nearest first.
 func Nearest(x, y int32, k uint64) Query {
 	it := All()
 	it.Order, it.NearX, it.NearY, it.Limit = OrderNear, x, y, k
 	return it
 }
 
+// Answers are those of several queries, one after the other.
+type Answers struct {
+	IDs    []int64
+	Scores []Score
+	Ends   []uint64 // for each query the index behind its last answer
+}
+
+// Of returns the ids and scores of the query at an index.
+func (it Answers) Of(query int) ([]int64, []Score) {
+	first, end := uint64(0), it.Ends[query]
+	if query > 0 {
+		first = it.Ends[query-1]
+	}
+	return it.IDs[first:end], it.Scores[first:end]
+}
+
 // The structs that go to C have the sizes that they have there.
 var (
 	_ = [1]struct{}{}[uintptr(C.sizeof_rtfilter_query)-unsafe.Sizeof(Query{})]
 	_ = [1]struct{}{}[uintptr(C.sizeof_rtfilter_info)-unsafe.Sizeof(Info{})]
+	_ = [1]struct{}{}[uintptr(C.sizeof_rtfilter_score)-unsafe.Sizeof(Score{})]
 )

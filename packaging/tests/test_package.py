@@ -23,6 +23,7 @@ VERSION = (ROOT / "VERSION").read_text(encoding="utf-8").strip()
 TOOLS = "dpkg-buildpackage", "dh", "dh_python3", "gcc", "objdump"
 MODULES = {f"usr/lib/rtfilter/{name}.py": 0o644 for name in ("health", "listening", "prefork", "service")}
 LIBRARIES = "usr/lib/x86_64-linux-gnu"
+BINDINGS = [path for folder in ("go", "rust", "rust/src") for path in (ROOT / "bindings" / folder).iterdir() if path.is_file()]
 FILES = {  # beside each package's own documents
     "rtfilter": {
         "usr/bin/rtfilter": 0o755,
@@ -36,6 +37,7 @@ FILES = {  # beside each package's own documents
         f"{LIBRARIES}/pkgconfig/rtfilter.pc": 0o644,
         "usr/include/rtfilter.h": 0o644,
         "usr/include/rtfilter.hpp": 0o644,
+        **{f"usr/share/librtfilter/{it.relative_to(ROOT / 'bindings')}": 0o644 for it in BINDINGS if it.name != "Cargo.lock"},
     },
     "rtfilter-service": {
         "etc/default/rtfilter-service": 0o644,
@@ -187,6 +189,48 @@ class Packages(unittest.TestCase):
         symbols = {line.split()[0].split("@")[0] for line in (ROOT / "packaging/debian/librtfilter0.symbols").read_text().splitlines()[2:]}
         public = set(re.findall(r"^    (\w+);$", (ROOT / "library/rtfilter.map").read_text(), re.MULTILINE))
         self.assertEqual(symbols, public | {"RTFILTER_0"})
+
+    def installed_library(self, system: str) -> dict[str, str]:
+        """What a build needs to find the library of the packages, which are unpacked into a folder."""
+        for name in ("librtfilter0", "librtfilter-dev"):
+            run("dpkg", "-x", self.packages[name], system)
+        libraries = f"{system}/{LIBRARIES}"
+        return {**os.environ, "PKG_CONFIG_SYSROOT_DIR": system, "PKG_CONFIG_LIBDIR": f"{libraries}/pkgconfig",
+                "PKG_CONFIG_ALLOW_SYSTEM_CFLAGS": "1", "PKG_CONFIG_ALLOW_SYSTEM_LIBS": "1", "LD_LIBRARY_PATH": libraries}  # fmt: skip
+
+    def page(self, name: str, language: str) -> tuple[str, str]:
+        """The program of a wrapper's page, and what it prints."""
+        text = (ROOT / name).read_text(encoding="utf-8")
+        program = found(rf"(?s)```{language}\n(.*?)```\n\nprints\n\n```\n(.*?)```", text)
+        return program[1], program[2]
+
+    def test_a_crate_over_the_package(self) -> None:
+        """A new crate in a clean folder builds and runs the program of the page."""
+        wants(self, "cargo", "pkg-config")
+        program, printed = self.page("bindings/rust/README.md", "rust")
+        with tempfile.TemporaryDirectory() as system:
+            words = {**self.installed_library(system), "CARGO_TARGET_DIR": f"{system}/target"}
+            crate = Path(system, "crate")
+            run("cargo", "new", "--quiet", "--vcs", "none", "--bin", crate, env=words)
+            with open(crate / "Cargo.toml", "a") as manifest:
+                manifest.write(f'rtfilter = {{ path = "{system}/usr/share/librtfilter/rust" }}\n')
+            (crate / "src/main.rs").write_text(program)
+            folder = found("-L(.*)", run("pkg-config", "--libs-only-L", "rtfilter", env=words))[1].strip()
+            words["RTFILTER_LIB_DIR"] = folder  # (of a system that isn't the root)
+            self.assertEqual(run("cargo", "run", "--offline", "--quiet", cwd=crate, env=words), printed)
+
+    def test_a_module_over_the_package(self) -> None:
+        """A new module in a clean folder builds and runs the program of the page."""
+        wants(self, "go", "pkg-config", "cc")
+        program, printed = self.page("bindings/go/README.md", "go")
+        with tempfile.TemporaryDirectory() as system:
+            words = {**self.installed_library(system), "GOPATH": f"{system}/path", "GOCACHE": f"{system}/cache", "GOPROXY": "off"}
+            module, used = Path(system, "module"), found(r"require (\S+) ", (ROOT / "bindings/go/README.md").read_text())[1]
+            module.mkdir()
+            (module / "main.go").write_text(program)
+            replaced = f"replace {used} => {system}/usr/share/librtfilter/go"
+            (module / "go.mod").write_text(f"module page\n\ngo 1.19\n\nrequire {used} v0.0.0\n\n{replaced}\n")
+            self.assertEqual(run("go", "run", ".", cwd=module, env=words), printed)
 
     def test_debug_symbols(self) -> None:
         """They belong to the program, and name its functions."""

@@ -3,6 +3,7 @@
 import os
 import shutil
 import subprocess
+import sys
 import tempfile
 import unittest
 from pathlib import Path
@@ -43,8 +44,10 @@ class Gate(unittest.TestCase):
         self.calls.write_text("")
         self.lacking.write_text("".join(f"{it}\n" for it in lacking.split()))
         it = {"PATH": f"{self.stubs}:{os.environ['PATH']}", "CALLS": str(self.calls), "LACKING": str(self.lacking)}
+        # (this Python runs what is written in it: the one of the path is a stub)
+        runner = [sys.executable] if name == "tests/run" else []
         done = subprocess.run(
-            [self.folder / name, *words], env={**it, "USER_ID": "0", "NO_NETWORK": "", **environment}, stdout=subprocess.PIPE,
+            [*runner, self.folder / name, *words], env={**it, "USER_ID": "0", "NO_NETWORK": "", **environment}, stdout=subprocess.PIPE,
             stderr=subprocess.STDOUT, stdin=subprocess.DEVNULL, text=True, timeout=LONGEST,
         )  # fmt: skip
         return done.returncode, done.stdout.splitlines(), self.calls.read_text().splitlines()

@@ -59,7 +59,7 @@ static void tables_in_bytes(void)
     rtfilter_close(&session);
 
     /* All settings. */
-    const rtfilter_settings settings = {true, 2, 5};
+    const rtfilter_settings settings = {.header = true, .fanout = 2, .max_entries = 5};
     EXPECT(open_text(&session, "id,min_x,max_x,min_y,max_y\n" BOXES, &settings, NULL) == RTFILTER_OK);
     EXPECT(rtfilter_info_of(&session, &info) == RTFILTER_OK);
     EXPECT(info.boxes == 5 && info.levels == 4 && info.level_sizes[1] == 3 && info.level_sizes[2] == 2 &&
@@ -84,7 +84,7 @@ static void faulty_tables(void)
         {"1,0,1,1,0\n", RTFILTER_MIN_ABOVE_MAX, 1, 4},
         {"1,0,1,0,1\n2,0,1,0,1\n1,0,0,0,0\n", RTFILTER_REPEATED, 3, 1},
     };
-    const rtfilter_settings three = {false, 16, 3};
+    const rtfilter_settings three = {.fanout = 16, .max_entries = 3};
     rtfilter_session session = RTFILTER_CLOSED;
     for (size_t i = 0; i < LEN(faults); i++) {
         rtfilter_fault fault = {99, 99, 99};
@@ -92,16 +92,57 @@ static void faulty_tables(void)
         EXPECT(fault.kind == faults[i].kind && fault.record == faults[i].record && fault.field == faults[i].field);
         EXPECT(open_text(&session, faults[i].table, &three, NULL) == RTFILTER_BAD_TABLE && !session.at);
     }
-    static const rtfilter_settings wrong[] = {{false, 1, 5}, {false, 65, 5}, {false, 16, 0}, {false, 16, 16777217}};
+    static const rtfilter_settings wrong[] = {
+        {.fanout = 1, .max_entries = 5},
+        {.fanout = 65, .max_entries = 5},
+        {.fanout = 16, .max_entries = 0},
+        {.fanout = 16, .max_entries = 16777217},
+        {.fanout = 16, .max_entries = 5, .reserved = {1}},
+        {.fanout = 16, .max_entries = 5, .reserved = {0, 0, 0, 0, 0, 1}},
+    };
     for (size_t i = 0; i < LEN(wrong); i++) {
         EXPECT(open_text(&session, BOXES, &wrong[i], NULL) == RTFILTER_BAD_SETTING && !session.at);
         EXPECT(rtfilter_open_arrays(&session, 0, NULL, NULL, NULL, NULL, NULL, NULL, &wrong[i], NULL) == RTFILTER_BAD_SETTING);
     }
-    static const rtfilter_settings fine[] = {{false, 2, 5}, {false, 64, 16777216}};
+    static const rtfilter_settings fine[] = {{.fanout = 2, .max_entries = 5}, {.fanout = 64, .max_entries = 16777216}};
     for (size_t i = 0; i < LEN(fine); i++) {
         EXPECT(open_text(&session, BOXES, &fine[i], NULL) == RTFILTER_OK);
         rtfilter_close(&session);
     }
+}
+
+/* A fault's text is the program's, as far as there is room. */
+static void faults_in_words(void)
+{
+    static const struct {
+        rtfilter_fault fault;
+        const char *text;
+    } faults[] = {
+        {{RTFILTER_TOO_MANY, 4, 0}, "table record 4: too many entries"},
+        {{RTFILTER_FIELD_COUNT, 2, UINT64_MAX}, "table record 2: wrong number of fields (18446744073709551615)"},
+        {{RTFILTER_NOT_NUMBER, UINT32_MAX, 3}, "table record 4294967295: field 3 is not a number"},
+        {{RTFILTER_OUT_OF_RANGE, 1, 6}, "table record 1: field 6 is out of range"},
+        {{RTFILTER_MIN_ABOVE_MAX, 1, 2}, "table record 1: minimum above maximum in x"},
+        {{RTFILTER_MIN_ABOVE_MAX, 1, 4}, "table record 1: minimum above maximum in y"},
+        {{RTFILTER_REPEATED, 3, 1}, "table record 3: repeated id"},
+    };
+    char text[128];
+    for (size_t i = 0; i < LEN(faults); i++) {
+        const size_t len = strlen(faults[i].text);
+        EXPECT(len <= 80);
+        for (size_t size = 0; size <= sizeof text; size++) {
+            memset(text, 'x', sizeof text);
+            EXPECT(rtfilter_fault_message(&faults[i].fault, text, size) == len);
+            const size_t copied = size == 0 ? 0 : len < size ? len : size - 1;
+            EXPECT(memcmp(text, faults[i].text, copied) == 0 && (size == 0 || text[copied] == '\0'));
+            EXPECT(size == sizeof text || text[size] == 'x');
+        }
+        EXPECT(rtfilter_fault_message(&faults[i].fault, NULL, 0) == len);
+    }
+    const rtfilter_fault none = {0, 1, 1}, unknown = {7, 1, 1};
+    EXPECT(rtfilter_fault_message(&none, text, sizeof text) == 0 && text[0] == '\0');
+    EXPECT(rtfilter_fault_message(&unknown, text, sizeof text) == 0 && text[0] == '\0');
+    EXPECT(rtfilter_fault_message(NULL, text, sizeof text) == 0 && text[0] == '\0');
 }
 
 static void tables_in_arrays(void)
@@ -109,7 +150,7 @@ static void tables_in_arrays(void)
     int64_t ids[] = {1, INT64_MIN, INT64_MAX};
     int32_t min_x[] = {0, INT32_MIN, 5}, max_x[] = {10, INT32_MAX, 5}, min_y[] = {0, INT32_MIN, 5}, max_y[] = {0, INT32_MAX, 5};
     uint8_t layers[] = {0, 63, 7};
-    const rtfilter_settings all = RTFILTER_DEFAULTS, two = {true, 16, 2};
+    const rtfilter_settings all = RTFILTER_DEFAULTS, two = {.header = true, .fanout = 16, .max_entries = 2};
     rtfilter_session session = RTFILTER_CLOSED;
     rtfilter_fault fault = {99, 99, 99};
     rtfilter_info info;
@@ -155,6 +196,72 @@ static void tables_in_arrays(void)
     EXPECT(!session.at);
 }
 
+/* The same boxes as structs, and as rows in the order of other libraries. */
+static void tables_in_rows(void)
+{
+    rtfilter_box boxes[] = {{7, 0, 10, 1, 11, 3}, {-9, 5, 15, 6, 16, 0}, {INT64_MAX, 20, 30, 21, 31, 63}};
+    const int32_t bounds[][4] = {{0, 1, 10, 11}, {5, 6, 15, 16}, {20, 21, 30, 31}};
+    int64_t ids[] = {7, -9, INT64_MAX};
+    uint8_t layers[] = {3, 0, 63};
+    const rtfilter_settings two = {.fanout = 16, .max_entries = 2};
+    rtfilter_session session = RTFILTER_CLOSED;
+    rtfilter_fault fault = {99, 99, 99};
+    rtfilter_query third = rtfilter_all();
+    third.layers = (uint64_t)1 << 3;
+
+    for (int form = 0; form < 2; form++) {
+        EXPECT((form ? rtfilter_open_boxes(&session, 3, boxes, NULL, &fault)
+                     : rtfilter_open_bounds(&session, 3, ids, bounds, layers, NULL, &fault)) == RTFILTER_OK);
+        EXPECT(FINDS(&session, rtfilter_all(), -9, 7, INT64_MAX));
+        EXPECT(FINDS(&session, rtfilter_inside(0, 10, 1, 11), 7));
+        EXPECT(FINDS(&session, rtfilter_covers(15, 15, 16, 16), -9));
+        EXPECT(FINDS(&session, third, 7));
+        rtfilter_close(&session);
+    }
+    /* Without ids and layers. */
+    EXPECT(rtfilter_open_bounds(&session, 3, NULL, bounds, NULL, NULL, NULL) == RTFILTER_OK);
+    EXPECT(FINDS(&session, rtfilter_all(), 0, 1, 2));
+    EXPECT(FINDS(&session, rtfilter_covers(20, 30, 21, 31), 2));
+    EXPECT(finds(&session, third, NULL, 0, 0, NULL));
+    rtfilter_close(&session);
+    EXPECT(rtfilter_open_boxes(&session, 0, NULL, NULL, NULL) == RTFILTER_OK);
+    rtfilter_close(&session);
+    EXPECT(rtfilter_open_bounds(&session, 0, NULL, NULL, NULL, NULL, NULL) == RTFILTER_OK);
+    rtfilter_close(&session);
+
+    EXPECT(rtfilter_open_boxes(&session, 3, boxes, &two, &fault) == RTFILTER_BAD_TABLE);
+    EXPECT(fault.kind == RTFILTER_TOO_MANY && fault.record == 3 && fault.field == 0 && !session.at);
+    EXPECT(rtfilter_open_bounds(&session, 3, ids, bounds, layers, &two, &fault) == RTFILTER_BAD_TABLE);
+    EXPECT(fault.kind == RTFILTER_TOO_MANY && fault.record == 3 && fault.field == 0 && !session.at);
+    const int32_t swapped[][4] = {{0, 1, 10, 11}, {5, 6, 15, 5}};
+    EXPECT(rtfilter_open_bounds(&session, 2, ids, swapped, layers, NULL, &fault) == RTFILTER_BAD_TABLE);
+    EXPECT(fault.kind == RTFILTER_MIN_ABOVE_MAX && fault.record == 2 && fault.field == 4);
+    boxes[1].min_x = 16;
+    EXPECT(rtfilter_open_boxes(&session, 3, boxes, NULL, &fault) == RTFILTER_BAD_TABLE);
+    EXPECT(fault.kind == RTFILTER_MIN_ABOVE_MAX && fault.record == 2 && fault.field == 2);
+    boxes[1].min_x = 5;
+    boxes[2].layer = layers[2] = 64;
+    EXPECT(rtfilter_open_boxes(&session, 3, boxes, NULL, &fault) == RTFILTER_BAD_TABLE);
+    EXPECT(fault.kind == RTFILTER_OUT_OF_RANGE && fault.record == 3 && fault.field == 6);
+    EXPECT(rtfilter_open_bounds(&session, 3, ids, bounds, layers, NULL, &fault) == RTFILTER_BAD_TABLE);
+    EXPECT(fault.kind == RTFILTER_OUT_OF_RANGE && fault.record == 3 && fault.field == 6);
+    boxes[2].layer = layers[2] = 63;
+    boxes[2].id = ids[2] = 7;
+    EXPECT(rtfilter_open_boxes(&session, 3, boxes, NULL, &fault) == RTFILTER_BAD_TABLE);
+    EXPECT(fault.kind == RTFILTER_REPEATED && fault.record == 3 && fault.field == 1);
+    EXPECT(rtfilter_open_bounds(&session, 3, ids, bounds, layers, NULL, &fault) == RTFILTER_BAD_TABLE);
+    EXPECT(fault.kind == RTFILTER_REPEATED && fault.record == 3 && fault.field == 1);
+
+    EXPECT(rtfilter_open_boxes(NULL, 1, boxes, NULL, NULL) == RTFILTER_MISUSE);
+    EXPECT(rtfilter_open_boxes(&session, 1, NULL, NULL, NULL) == RTFILTER_MISUSE);
+    EXPECT(rtfilter_open_bounds(NULL, 1, ids, bounds, layers, NULL, NULL) == RTFILTER_MISUSE);
+    EXPECT(rtfilter_open_bounds(&session, 1, ids, NULL, layers, NULL, NULL) == RTFILTER_MISUSE);
+    const rtfilter_settings wrong = {.fanout = 16, .max_entries = 2, .reserved = {1}};
+    EXPECT(rtfilter_open_boxes(&session, 1, boxes, &wrong, NULL) == RTFILTER_BAD_SETTING);
+    EXPECT(rtfilter_open_bounds(&session, 1, ids, bounds, layers, &wrong, NULL) == RTFILTER_BAD_SETTING);
+    EXPECT(!session.at);
+}
+
 static void tables_in_files(void)
 {
     rtfilter_session session = RTFILTER_CLOSED;
@@ -169,8 +276,9 @@ static void tables_in_files(void)
     errno = 0;
     EXPECT(rtfilter_open_file(&session, path("none"), NULL, NULL) == RTFILTER_BAD_FILE && errno == ENOENT && !session.at);
     EXPECT(rtfilter_open_file(&session, folder, NULL, NULL) == RTFILTER_BAD_FILE && errno == EISDIR && !session.at);
-    const rtfilter_settings wrong = {false, 1, 1};
+    const rtfilter_settings wrong = {.fanout = 1, .max_entries = 1};
     EXPECT(rtfilter_open_file(&session, path("boxes.csv"), &wrong, NULL) == RTFILTER_BAD_SETTING);
+    EXPECT(rtfilter_open_file(&session, path("none"), &wrong, NULL) == RTFILTER_BAD_SETTING);
     EXPECT(rtfilter_open_file(&session, "/dev/null", NULL, NULL) == RTFILTER_OK);
     EXPECT(rtfilter_info_of(&session, &info) == RTFILTER_OK && info.boxes == 0);
     rtfilter_close(&session);
@@ -302,8 +410,6 @@ static void helpers(rtfilter_session *session)
     EXPECT(FINDS(session, query, 1, 4, 2, 5, 3));
     query.order = RTFILTER_BY_ID;
     EXPECT(FINDS(session, query, 1, 2, 3, 4, 5));
-    query.layers = 0;
-    EXPECT(finds(session, query, NULL, 0, 0, NULL));
     query = rtfilter_nearest(0, 0, 0);
     EXPECT(finds(session, query, NULL, 0, 0, NULL));
 }
@@ -370,8 +476,12 @@ static void pieces(rtfilter_session *session)
     }
     rtfilter_answers none = {NULL, NULL, 0, NULL, 9, 9};
     const rtfilter_queries one = {three, 1, NULL, 0}, no = {NULL, 0, NULL, 0};
+    rtfilter_queries rest = no;
+    size_t skip = 0;
     EXPECT(rtfilter_find(session, &one, 0, &none) == RTFILTER_FULL && none.done == 0 && none.found == 0);
     EXPECT(rtfilter_find(session, &no, 0, &none) == RTFILTER_OK && none.done == 0 && none.found == 0);
+    rtfilter_continue(&rest, &skip, &none);
+    EXPECT(rest.queries == NULL && rest.len == 0 && skip == 0);
 }
 
 static void measures(rtfilter_session *session)
@@ -391,8 +501,14 @@ static void measures(rtfilter_session *session)
 
 static void invalid_queries(rtfilter_session *session)
 {
-    static const rtfilter_point points[] = {{0, 0}, {10, 0}, {0, 10}, {5, 5}, {20, 20}};
-    rtfilter_query wrong[12];
+    static const rtfilter_point points[20] = {{0, 0}, {10, 0}, {0, 10}, {5, 5}, {20, 20}};
+    static const char *const why[] = {
+        "unknown region", "unknown region", "unknown order", "minimum above maximum", "minimum above maximum",
+        "minimum above maximum", "a polygon has 3 to 16 vertices", "vertices beyond those of the call",
+        "vertices beyond those of the call", "vertices beyond those of the call", "polygon not strictly convex",
+        "polygon not strictly convex", "no layer", "reserved member isn't 0", "unknown region", "a polygon has 3 to 16 vertices",
+    };
+    rtfilter_query wrong[LEN(why)];
     for (size_t i = 0; i < LEN(wrong); i++)
         wrong[i] = rtfilter_all();
     wrong[0].region = 6;
@@ -407,9 +523,16 @@ static void invalid_queries(rtfilter_session *session)
     wrong[9] = rtfilter_polygon(UINT32_MAX, UINT32_MAX);
     wrong[10] = rtfilter_polygon(0, 4);
     wrong[11] = rtfilter_polygon(1, 3);
+    wrong[12].layers = 0;
+    wrong[13].reserved = 1;
+    wrong[14] = (rtfilter_query){.region = 6, .order = 3}; /* the first cause */
+    wrong[15] = rtfilter_polygon(0, 17);
     for (size_t i = 0; i < LEN(wrong); i++) {
         const rtfilter_query two[] = {rtfilter_all(), wrong[i]};
-        const rtfilter_queries queries = {two, 2, points, LEN(points)};
+        const rtfilter_queries queries = {two, 2, points, i == 15 ? LEN(points) : 5};
+        EXPECT(strcmp(rtfilter_query_message(&queries, 0), "valid query") == 0);
+        EXPECT(strcmp(rtfilter_query_message(&queries, 1), why[i]) == 0);
+        EXPECT(strcmp(rtfilter_query_message(&queries, 2), "no query") == 0);
         int64_t ids[16];
         size_t ends[2] = {9, 9}, done = 9;
         uint64_t measured[2] = {9, 9};
@@ -420,6 +543,11 @@ static void invalid_queries(rtfilter_session *session)
         EXPECT(rtfilter_cost_of_find(session, &queries, measured, &done) == RTFILTER_BAD_QUERY && done == 1);
         EXPECT(rtfilter_cost_of_count(session, &queries, measured, NULL) == RTFILTER_BAD_QUERY);
     }
+    EXPECT(strcmp(rtfilter_query_message(NULL, 0), "no query") == 0);
+    /* A struct of zeros has no layer. */
+    const rtfilter_query zeros = {0};
+    const rtfilter_queries alone = {&zeros, 1, NULL, 0};
+    EXPECT(strcmp(rtfilter_query_message(&alone, 0), "no layer") == 0);
     /* What isn't used is ignored. */
     rtfilter_query query = rtfilter_window(5, 4, 3, 2);
     query.region = RTFILTER_ALL;
@@ -504,7 +632,9 @@ int main(int count, char **words)
     about_the_library();
     tables_in_bytes();
     faulty_tables();
+    faults_in_words();
     tables_in_arrays();
+    tables_in_rows();
     tables_in_files();
     nothing_is_left_of_files();
     lines_and_replies();

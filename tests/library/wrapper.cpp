@@ -26,7 +26,14 @@ static void answer(rtfilter::Session &session)
     EXPECT((both.ids == std::vector<std::int64_t>{1, 2, 3, 2} && both.ends == std::vector<std::size_t>{2, 4}));
     EXPECT(both.scores.size() == 4 && both.scores[2].low == 4 && both.scores[3].low == 10 && both.scores[3].high == 0);
     EXPECT(session.count(window) == 2);
-    EXPECT(session.cost_of_find({window})[0] == 1 && session.cost_of_count({rtfilter_all()})[0] == 1);
+    rtfilter_query layers = rtfilter_all(), smallest = rtfilter_all();
+    layers.layers = 1ull << 7;
+    smallest.order = RTFILTER_SMALLEST;
+    EXPECT(session.find(layers).empty());
+    EXPECT((session.find(smallest) == std::vector<std::int64_t>{5, 4, 1, 2, 3}));
+    EXPECT((session.find(rtfilter_inside(0, 15, 0, 15)) == std::vector<std::int64_t>{1, 2, 5}));
+    EXPECT((session.find(rtfilter_covers(12, 12, 12, 12)) == std::vector<std::int64_t>{2, 5}));
+    EXPECT((session.find(rtfilter_circle(0, 0, 2)) == std::vector<std::int64_t>{1, 4}));
     EXPECT(session.count(rtfilter_polygon(1, 3), {{9, 9}, {0, 0}, {30, 0}, {0, 30}}) == 4);
     EXPECT(session.info().boxes == 5 && session.info().levels == 2 && session.info().max_x == 30);
     const rtfilter::Reply reply = session.ask("find window 0 10 0 10\nbad\n");
@@ -42,6 +49,25 @@ int main(int, char **words)
     rtfilter::Session other = session.share();
     session = rtfilter::Session::of_boxes({{7, 0, 1, 0, 1}, {9, 5, 6, 5, 6, 3}});
     EXPECT((session.find(rtfilter_all()) == std::vector<std::int64_t>{7, 9}));
+    rtfilter_query third = rtfilter_all();
+    third.layers = 1 << 3;
+    EXPECT((session.find(third) == std::vector<std::int64_t>{9}));
+    const std::int64_t ids[] = {7, 9};
+    const std::int32_t low[] = {0, 5}, high[] = {1, 6};
+    const std::uint8_t layers[] = {0, 3};
+    session = rtfilter::Session::of_columns({2, ids, low, high, low, high, layers});
+    EXPECT((session.find(third) == std::vector<std::int64_t>{9}));
+    session = rtfilter::Session::of_columns({2, ids, low, high, low, high});
+    EXPECT(session.find(third).empty() && session.info().boxes == 2);
+
+    /* Settings, and costs of finds and of counts, which differ. */
+    const rtfilter_settings two = {true, 2, 5, {}};
+    const std::string records = "1,0,10,0,10\n2,5,15,5,15\n3,20,30,0,10\n4,-5,-1,-5,-1\n5,12,12,12,12\n";
+    session = rtfilter::Session::of_bytes("id,min_x,max_x,min_y,max_y\n" + records, two);
+    EXPECT((session.cost_of_find({rtfilter_all(), rtfilter_nearest(12, 12, 2)}) == std::vector<std::uint64_t>{6, 3}));
+    EXPECT((session.cost_of_count({rtfilter_all(), rtfilter_nearest(12, 12, 2)}) == std::vector<std::uint64_t>{1, 1}));
+    EXPECT(error_of([&] { rtfilter::Session::of_bytes("header\n" + records + "6,0,0,0,0\n", two); }).fault.record == 7);
+    EXPECT(error_of([&] { rtfilter::Session::of_file(words[1], {false, 16, 4, {}}); }).fault.kind == RTFILTER_TOO_MANY);
     std::thread(answer, std::ref(other)).join();
 
     // Lists longer than the first arrays, and a reply longer than the first buffer.
@@ -56,12 +82,22 @@ int main(int, char **words)
     const rtfilter::Reply reply = many.ask("find all\n");
     EXPECT(reply.text.size() > 4096 && reply.text.substr(reply.text.size() - 16) == "999 0\nok 1 1000\n");
 
+    rtfilter_query some = rtfilter_all();
+    some.limit = 500;
+    EXPECT(many.find(some).size() == 500 && many.find_each({some, rtfilter_all()}, {}, true).scores.size() == 1500);
+    EXPECT(error_of([&] { many.find_each({rtfilter_all(), rtfilter_window(1, 0, 0, 0)}); }).query == 1);
+
     const auto table = error_of([] { rtfilter::Session::of_bytes("1,0,10,0,10\n2,9,0,0,0\n"); });
     EXPECT(table.code == RTFILTER_BAD_TABLE && table.fault.kind == RTFILTER_MIN_ABOVE_MAX && table.fault.record == 2);
+    EXPECT(table.what() == std::string("table record 2: minimum above maximum in x"));
     const auto query = error_of([&] { other.find_each({rtfilter_all(), rtfilter_window(1, 0, 0, 0)}); });
-    EXPECT(query.code == RTFILTER_BAD_QUERY && query.query == 1 && query.what() == std::string("invalid query"));
-    EXPECT(error_of([] { rtfilter::Session::of_file("/nowhere"); }).cause == ENOENT);
-    EXPECT(error_of([] { rtfilter::Session::of_bytes("", {false, 1, 1}); }).code == RTFILTER_BAD_SETTING);
+    EXPECT(query.code == RTFILTER_BAD_QUERY && query.query == 1);
+    EXPECT(query.what() == std::string("invalid query 1: minimum above maximum"));
+    EXPECT(error_of([&] { other.count_each({rtfilter_all(), rtfilter_all(), rtfilter_window(1, 0, 0, 0)}); }).query == 2);
+    const auto file = error_of([] { rtfilter::Session::of_file("/nowhere"); });
+    EXPECT(file.cause == ENOENT && file.what() == std::string("cannot read file: No such file or directory"));
+    EXPECT(error_of([] { rtfilter::Session::of_file(std::string("/dev/null\0more", 14)); }).code == RTFILTER_BAD_FILE);
+    EXPECT(error_of([] { rtfilter::Session::of_bytes("", {false, 1, 1, {}}); }).code == RTFILTER_BAD_SETTING);
     const rtfilter::Session moved = std::move(many);
     EXPECT(error_of([&] { many.info(); }).code == RTFILTER_MISUSE);
     return 0;

@@ -1,5 +1,7 @@
 mod ArrayLemmas
-mod ColumnLemmas
+mod BoxLemmas
+mod CostLemmas
 pub mod Headline
 mod Hulls
+mod LimitLemmas
 mod ListLemmas

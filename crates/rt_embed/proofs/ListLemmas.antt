@@ -39,6 +39,7 @@ no_query = record {
   near_y = pos 0;
   first_vertex = 0;
   vertices = 0;
+  reserved = 0;
   layers = 0;
   limit = 0;
 }

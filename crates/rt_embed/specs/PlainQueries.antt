@@ -1,64 +1,85 @@
--- What a query in plain numbers asks.
-use Rattle.std.specs.Prelude.{ℕ, ◌+◌, ◌-◌, ◌^◌, ◌==◌, ◌&&◌, nat_le, int_le, if◌then◌else◌, List, length, map, take, drop, Option, Some, None}
-use Rattle.std.specs.{Option.{option_and_then, option_map}, Result.{result_ok}}
+-- What a query in plain numbers asks, or why it is invalid.
+use Rattle.std.specs.Prelude.{ℕ, ◌+◌, ◌-◌, ◌^◌, ◌==◌, ◌&&◌, nat_le, int_le, if◌then◌else◌, List, length, map, take, drop, Option, Some, None, Result, Ok, Err}
+use Rattle.std.specs.Result.{result_ok}
 use Rattle.rt_geo.specs.Boxes.{Rect, rect_of}
 use Rattle.rt_geo.specs.Orders.{by_id, near}
 use Rattle.rt_geo.specs.Polygons.{polygon_of}
 use Rattle.rt_geo.specs.declared.distance.Point.{Point}
+use Rattle.rt_geo.specs.declared.layers.Layers.{Layers}
 use Rattle.rt_geo.specs.declared.order.Order.{Order}
 use Rattle.rt_geo.specs.declared.order.Order.TheVariants.{Smallest}
+use Rattle.rt_geo.specs.declared.polygon.PolygonFault.{PolygonFault}
+use Rattle.rt_geo.specs.declared.polygon.PolygonFault.TheVariants as fault
 use Rattle.rt_geo.specs.declared.region.Region.{Region}
 use Rattle.rt_geo.specs.declared.region.Region.TheVariants.{All, Circle, Covers, Inside, Polygon, Window}
+use Rattle.rt_text.specs.Steps.{◌>>=◌, map_fault, map_value}
+use Rattle.rt_embed.specs.declared.plain_query.InvalidQuery.{InvalidQuery}
+use Rattle.rt_embed.specs.declared.plain_query.InvalidQuery.TheVariants as invalid
+use Rattle.rt_embed.specs.declared.plain_query.InvalidQuery.TheVariants.{MissingVertices, NoLayer, NotConvex, Reserved, Sides, VertexCount}
 use Rattle.rt_embed.specs.declared.plain_query.PlainQuery.{PlainQuery}
 use Rattle.rt_embed.specs.declared.question.Question.{Question}
 use Rattle.rt_embed.specs.declared.vertex.Vertex.{Vertex}
 
 -- the box, if no minimum is above its maximum
-abbrev pub box_of : PlainQuery → Option Rect
+abbrev pub box_of : PlainQuery → Result Rect InvalidQuery
 box_of query =
     if int_le query.min_x query.max_x && int_le query.min_y query.max_y
-    then Some (rect_of query.min_x query.max_x query.min_y query.max_y) else None
+    then Ok (rect_of query.min_x query.max_x query.min_y query.max_y) else Err Sides
 
 -- the point of a vertex
 abbrev pub point_of : Vertex → Point
 point_of vertex = record { x = vertex.x; y = vertex.y }
 
+-- why vertices make no polygon
+abbrev pub no_polygon : PolygonFault → InvalidQuery
+no_polygon fault.Count = VertexCount
+no_polygon fault.NotConvex = NotConvex
+
 -- the polygon whose vertices stand in the list from a place on, if there are so many and they make one
-abbrev pub polygon_in : (vertices : List Vertex) → PlainQuery → Option (List Point)
+abbrev pub polygon_in : (vertices : List Vertex) → PlainQuery → Result (List Point) InvalidQuery
 polygon_in vertices query =
     if nat_le (query.first_vertex + query.vertices) (length vertices)
-    then result_ok (polygon_of (map point_of (take query.vertices (drop query.first_vertex vertices)))) else None
+    then map_fault no_polygon (polygon_of (map point_of (take query.vertices (drop query.first_vertex vertices))))
+    else Err MissingVertices
 
 -- the region that its number names, if it is one
-abbrev pub region_of : (vertices : List Vertex) → PlainQuery → Option Region
+abbrev pub region_of : (vertices : List Vertex) → PlainQuery → Result Region InvalidQuery
 region_of vertices query =
-    if query.region == 0 then Some (All (record {}))
-    else if query.region == 1 then option_map (λ box. Window (record { 0 = box })) (box_of query)
-    else if query.region == 2 then option_map (λ box. Inside (record { 0 = box })) (box_of query)
-    else if query.region == 3 then option_map (λ box. Covers (record { 0 = box })) (box_of query)
+    if query.region == 0 then Ok (All (record {}))
+    else if query.region == 1 then map_value (λ box. Window (record { 0 = box })) (box_of query)
+    else if query.region == 2 then map_value (λ box. Inside (record { 0 = box })) (box_of query)
+    else if query.region == 3 then map_value (λ box. Covers (record { 0 = box })) (box_of query)
     else if query.region == 4 then
-    Some (Circle (record { centre = record { x = query.x; y = query.y }; radius = query.radius }))
-    else if query.region == 5 then option_map Polygon (polygon_in vertices query)
-    else None
+    Ok (Circle (record { centre = record { x = query.x; y = query.y }; radius = query.radius }))
+    else if query.region == 5 then map_value Polygon (polygon_in vertices query)
+    else Err invalid.Region
 
 -- the order that its number names, if it is one
-abbrev pub order_of : PlainQuery → Option Order
+abbrev pub order_of : PlainQuery → Result Order InvalidQuery
 order_of query =
-    if query.order == 0 then Some by_id
-    else if query.order == 1 then Some (near (record { x = query.near_x; y = query.near_y }))
-    else if query.order == 2 then Some (Smallest (record {}))
-    else None
+    if query.order == 0 then Ok by_id
+    else if query.order == 1 then Ok (near (record { x = query.near_x; y = query.near_y }))
+    else if query.order == 2 then Ok (Smallest (record {}))
+    else Err invalid.Order
+
+-- the layers, of which there is at least one
+abbrev pub layers_of : PlainQuery → Result Layers InvalidQuery
+layers_of query = if query.layers == 0 then Err NoLayer else Ok (record { bits = query.layers })
 
 -- the greatest number of 64 bits stands for no limit
 abbrev pub limit_of : ℕ → Option ℕ
 limit_of limit = if limit == 2 ^ 64 - 1 then None else Some limit
 
--- what the query asks of a region, in an order
-abbrev pub asked_of : PlainQuery → Region → Order → Question
-asked_of query region order =
-    record { region = region; layers = record { bits = query.layers }; order = order; limit = limit_of query.limit }
+-- the question that a query asks, or why it is invalid: its region is judged first, then its order, its layers, and what is
+-- reserved
+abbrev pub judged : (vertices : List Vertex) → PlainQuery → Result Question InvalidQuery
+judged vertices query = do
+  region ← region_of vertices query
+  order ← order_of query
+  layers ← layers_of query
+  if query.reserved == 0 then Ok (record { region = region; layers = layers; order = order; limit = limit_of query.limit })
+      else Err Reserved
 
--- the question that a query asks, if it has a region and an order
+-- the question, if the query is valid
 abbrev pub question_of : (vertices : List Vertex) → PlainQuery → Option Question
-question_of vertices query =
-    option_and_then (λ region. option_map (asked_of query region) (order_of query)) (region_of vertices query)
+question_of vertices query = result_ok (judged vertices query)

@@ -1,5 +1,5 @@
 -- How lists of answers are put one behind the other. No public contract cites it.
-use Rattle.std.specs.Prelude.{◌≡◌, ◌<◌, ◌≤◌, ℕ, ◌+◌, ◌-◌, ℤ, Bool, true, false, List, ◌++◌, length, map, take, drop}
+use Rattle.std.specs.Prelude.{◌≡◌, ◌<◌, ◌≤◌, ℕ, ◌+◌, ◌-◌, ℤ, Bool, true, false, Option, Some, None, List, ◌++◌, length, map, take, drop}
 use Rattle.rt_search.specs.Answers.{Answer}
 use Rattle.rt_embed.specs.Findings.{Begins, id_of, score_of}
 use Rattle.rt_embed.specs.declared.finding.Position.{Position}
@@ -23,3 +23,12 @@ pub record IsPutBehind (list : List Answer) (from end : ℕ) (is_whole : Bool) (
 pub record IsPut (list : List Answer) (from to : Position) (ids ids' : List ℤ) (scores scores' : List Score) : Type 0 where
   pub put : IsPutBehind (drop from.skip list) from.end to.end to.is_whole ids ids' scores scores'
   pub skip : to.skip ≡ from.skip - length list
+
+-- the first so many answers are found up to this limit: there is one at most so great, or fewer boxes than so many
+abbrev pub IsWithin : (limit : Option ℕ) → (wanted boxes : ℕ) → Type 0
+IsWithin (Some limit) wanted boxes = limit ≤ wanted
+IsWithin None wanted boxes = boxes < wanted
+
+-- how many answers are wanted at most from a place on: those that are passed over or have a place, and one
+abbrev pub wanted_from : Position → (places : ℕ) → ℕ
+wanted_from from places = from.skip + (places - from.end) + 1

@@ -1,13 +1,21 @@
 -- What sessions are seen as, and what they reply.
-use Rattle.std.specs.Prelude.{◌≡◌, ℕ, Bool, if◌then◌else◌, List, None}
+use Rattle.std.specs.Prelude.{◌≡◌, ℕ, Bool, if◌then◌else◌, List, Option, IfSome, None}
+use Rattle.std.specs.Option.{IsSomeAnd}
 use Rattle.rt_command.specs.Choices.{Choices}
 use Rattle.rt_tree.specs.Packed.{Packed}
+use Rattle.rt_search.specs.Work.{CountsOn}
 use Rattle.rt_filter.specs.Runs.{run_of}
 
--- the tree that is asked, and the reply to the last text
+-- the tree that is asked, the reply to the last text, and how many nodes were opened in the frontier, as far as 64 bits count:
+-- none where there is no frontier, so that the next call takes memory for one
 pub record Contents : Type 0 where
   pub tree : Packed
   pub reply : List ℕ
+  pub opened : Option ℕ
+
+-- there is a frontier, and if there was one before it is that one, in which so many nodes more were opened
+abbrev pub HasOpened : (old : Option ℕ) → (so_many : ℕ) → (new : Option ℕ) → Type 0
+HasOpened old so_many new = IsSomeAnd new (λ after. IfSome old (λ before. CountsOn before so_many after))
 
 -- bytes that were pushed, and how many pushes failed
 pub record Replying : Type 0 where

@@ -1,19 +1,22 @@
 //! The answers to queries in numbers, in arrays that the caller has.
 //!
 //! The region and the order of a query are matched once, as for a query line (`query.rt` of `rt_filter`), so that the check of
-//! each box is compiled for them.
+//! each box is compiled for them. No query is searched for more answers than have a place, and one.
 
-ghost use Rattle.std.specs.Prelude.{◌≡◌, ◌-◌, ◌+◌, ◌<◌, ◌≤◌, ◌++◌, ◌∷◌, [], List, length, drop};
-ghost use Rattle.rt_geo.specs.{Orders.{order_score}, Regions.{region_accepts}};
-ghost use Rattle.rt_search.specs.Answers.{Answer, answers};
-ghost use Rattle.rt_filter.specs.Reports.{scanned};
-ghost use Rattle.rt_embed.specs.{Findings.{Begins, HasFound, answers_to, id_of, score_of}, Puts.{IsPut, IsPutBehind}};
+ghost use Rattle.std.specs.Prelude.{◌≡◌, ◌-◌, ◌+◌, ◌<◌, ◌≤◌, ◌++◌, ◌∷◌, [], List, MatchOption, None, Some, length, drop};
+ghost use Rattle.std.specs.Prelude.{false, take, true};
+ghost use Rattle.rt_geo.specs.{Orders.{order_score}, Regions.{region_accepts, region_state}};
+ghost use Rattle.rt_search.specs.{Answers.{Answer, answers}, Work.{CountsOn, opened_by_search}};
+ghost use Rattle.rt_filter.specs.{Replies.{meaning_of}, Reports.{scanned, scored_up_to, searched_in_shape}};
+ghost use Rattle.rt_embed.specs.{Findings.{Begins, HasFound, answers_to, id_of, score_of}};
+ghost use Rattle.rt_embed.specs.{Costs.{limit_within, opened_by_finds, opened_to_find}};
+ghost use Rattle.rt_embed.specs.{Puts.{IsPut, IsPutBehind, IsWithin, wanted_from}};
 
 use crate::plain_query::PlainQuery;
 use crate::question::Question;
 use crate::score::Score;
 use crate::vertex::Vertex;
-use rt_geo::{Counted, Disc, Geometry, Guided, OnLayers, Order, Region, Shape, Unscored};
+use rt_geo::{Counted, Disc, Geometry, Guided, Layers, OnLayers, Order, Region, Shape, Unscored};
 use rt_search::{Frontier, Search};
 use rt_tree::Tree;
 
@@ -53,6 +56,9 @@ pub(crate) fn find_each(
     requires capacity { length tree.now.entries ≤ frontier.capacity }
     ensures found { HasFound tree.now.entries vertices.now skip queries.now
         ends.new ids.new scores.new result.0 }
+    ensures worked { let wanted = skip + length ids.old + 1 in CountsOn frontier.opened
+        (opened_by_finds tree.now vertices.now wanted (take (result.0.done + 1) queries.now))
+        result.1.opened }
     ensures capacity { result.1.capacity ≡ frontier.capacity }
 {
     let mut frontier = frontier;
@@ -63,7 +69,7 @@ pub(crate) fn find_each(
     };
     let mut done: usize = 0;
     while done < queries.len() {
-        let Some(question) = queries[done].question(vertices) else {
+        let Some(question) = queries[done].question(vertices).ok() else {
             return (position.stopped(done, Stop::BadQuery), frontier);
         };
         let (next, left) = find_one(tree, frontier, &question, position, ids, scores);
@@ -102,7 +108,8 @@ impl Position {
     }
 }
 
-// Puts the answers to a question behind those that are there.
+// Puts the answers to a question behind those that are there. It is searched for as many as have places, and one more, which
+// says that there are too few.
 fn find_one(
     tree: &Tree,
     frontier: Frontier,
@@ -115,24 +122,41 @@ fn find_one(
     requires place { from.end ≤ length ids.old }
     ensures put { IsPut (answers_to tree.now.entries question.now) from result.0
         ids.old ids.new scores.old scores.new }
+    ensures worked { let wanted = wanted_from from (length ids.old) in
+        CountsOn frontier.opened (opened_to_find tree.now wanted question.now) result.1.opened }
     ensures capacity { result.1.capacity ≡ frontier.capacity }
 {
-    // (called, so that it is known which layers the entries have)
-    let _ = tree.len();
     let cut = Cut {
         order: question.order,
-        limit: question.limit,
+        limit: limit_within(question.limit, from.skip, ids.len() - from.end, tree.len()),
         from,
     };
-    // (all layers are those of all entries: none is checked)
-    if question.layers.bits() == u64::MAX {
-        return put_in_region(tree, frontier, &question.region, cut, ids, scores);
+    put_on_layers(
+        tree,
+        frontier,
+        &question.region,
+        question.layers,
+        cut,
+        ids,
+        scores,
+    )
+}
+
+// The least of a limit and of how many answers are wanted: those that are passed over or have a place, and one. None where the
+// boxes are fewer than these.
+fn limit_within(limit: Option<u64>, skip: usize, places: usize, boxes: u32) -> Option<u64>
+    ensures within { IsWithin result (skip + places + 1) boxes }
+    ensures least { MatchOption result (limit ≡ None)
+        (λ least. least ≡ limit_within limit (skip + places + 1)) }
+{
+    let wanted = (skip as u64)
+        .saturating_add(places as u64)
+        .saturating_add(1);
+    match limit {
+        Some(limit) => Some(limit.min(wanted)),
+        None if wanted <= u64::from(boxes) => Some(wanted),
+        None => None,
     }
-    let shape = OnLayers {
-        shape: &question.region,
-        layers: question.layers,
-    };
-    put_in_shape(tree, frontier, shape, cut, ids, scores)
 }
 
 // Which of the boxes that a shape accepts are put, and where.
@@ -141,6 +165,40 @@ struct Cut {
     order: Order,
     limit: Option<u64>,
     from: Position,
+}
+
+// Puts the boxes of a region that are on some layers.
+fn put_on_layers(
+    tree: &Tree,
+    frontier: Frontier,
+    region: &Region,
+    layers: Layers,
+    cut: Cut,
+    ids: &mut [i64],
+    scores: &mut [Score],
+) -> (Position, Frontier)
+    requires capacity { length tree.now.entries ≤ frontier.capacity }
+    requires place { cut.from.end ≤ length ids.old }
+    requires within { IsWithin cut.limit (wanted_from cut.from (length ids.old))
+        (length tree.now.entries) }
+    ensures put { let meaning = meaning_of region.now layers cut.order in
+        IsPut (answers tree.now.entries meaning cut.limit) cut.from result.0
+        ids.old ids.new scores.old scores.new }
+    ensures worked { let meaning = meaning_of region.now layers cut.order in
+        CountsOn frontier.opened (opened_by_search meaning tree.now cut.limit) result.1.opened }
+    ensures capacity { result.1.capacity ≡ frontier.capacity }
+{
+    // (called, so that it is known which layers the entries have)
+    let _ = tree.len();
+    // (all layers are those of all entries: none is checked)
+    if layers.bits() == u64::MAX {
+        return put_in_region(tree, frontier, region, cut, ids, scores);
+    }
+    let shape = OnLayers {
+        shape: region,
+        layers,
+    };
+    put_in_shape(tree, frontier, shape, cut, ids, scores)
 }
 
 // Puts the boxes of a region. A polygon is prepared where it can be, and a circle whose order is by the distance from its
@@ -155,9 +213,14 @@ fn put_in_region(
 ) -> (Position, Frontier)
     requires capacity { length tree.now.entries ≤ frontier.capacity }
     requires place { cut.from.end ≤ length ids.old }
+    requires within { IsWithin cut.limit (wanted_from cut.from (length ids.old))
+        (length tree.now.entries) }
     ensures put { let meaning = scanned (region_accepts region.now) (order_score cut.order) in
         IsPut (answers tree.now.entries meaning cut.limit) cut.from result.0
         ids.old ids.new scores.old scores.new }
+    ensures worked { let searched = searched_in_shape (region_accepts region.now)
+        (region_state region.now) cut.order cut.limit in
+        CountsOn frontier.opened (opened_by_search searched tree.now cut.limit) result.1.opened }
     ensures capacity { result.1.capacity ≡ frontier.capacity }
 {
     match region {
@@ -190,9 +253,13 @@ fn put_in_shape<S: Shape + Drop>(
 ) -> (Position, Frontier)
     requires capacity { length tree.now.entries ≤ frontier.capacity }
     requires place { cut.from.end ≤ length ids.old }
+    requires within { IsWithin cut.limit (wanted_from cut.from (length ids.old))
+        (length tree.now.entries) }
     ensures put { let meaning = scanned (S.accepts shape) (order_score cut.order) in
         IsPut (answers tree.now.entries meaning cut.limit) cut.from result.0
         ids.old ids.new scores.old scores.new }
+    ensures worked { let searched = searched_in_shape (S.accepts shape) (S.state shape) cut.order cut.limit in
+        CountsOn frontier.opened (opened_by_search searched tree.now cut.limit) result.1.opened }
     ensures capacity { result.1.capacity ≡ frontier.capacity }
 {
     let Cut { order, limit, from } = cut;
@@ -246,8 +313,12 @@ fn put_by_distance<G: Geometry + Drop>(
 ) -> (Position, Frontier)
     requires capacity { length tree.now.entries ≤ frontier.capacity }
     requires place { from.end ≤ length ids.old }
+    requires within { IsWithin limit (wanted_from from (length ids.old))
+        (length tree.now.entries) }
     ensures put { IsPut (answers tree.now.entries (G.meaning geometry) limit) from result.0
         ids.old ids.new scores.old scores.new }
+    ensures worked { let searched = scored_up_to limit (G.meaning geometry) in
+        CountsOn frontier.opened (opened_by_search searched tree.now limit) result.1.opened }
     ensures capacity { result.1.capacity ≡ frontier.capacity }
 {
     if limit.is_none() {
@@ -269,8 +340,12 @@ fn put_answers<G: Geometry + Drop>(
 ) -> (Position, Frontier)
     requires capacity { length tree.now.entries ≤ frontier.capacity }
     requires place { from.end ≤ length ids.old }
+    requires within { IsWithin limit (wanted_from from (length ids.old))
+        (length tree.now.entries) }
     ensures put { IsPut (answers tree.now.entries (G.meaning geometry) limit) from result.0
         ids.old ids.new scores.old scores.new }
+    ensures worked { CountsOn frontier.opened
+        (opened_by_search (G.meaning geometry) tree.now limit) result.1.opened }
     ensures capacity { result.1.capacity ≡ frontier.capacity }
 {
     let search = Search::start(tree, frontier, Counted::new(&geometry), limit);
@@ -289,6 +364,11 @@ fn pass_over<'a, G: Geometry>(search: Search<'a, G>, skip: usize) -> (Search<'a,
     ensures to_come { result.0.to_come ≡ drop skip search.entry.to_come }
     ensures left { result.1 ≡ skip - length search.entry.to_come }
     ensures capacity { result.0.capacity ≡ search.entry.capacity }
+    ensures tree { result.0.tree ≡ search.entry.tree }
+    ensures geometry { result.0.geometry ≡ search.entry.geometry }
+    ensures limit { result.0.limit ≡ search.entry.limit }
+    ensures given { result.0.given + result.1 ≡ search.entry.given + skip }
+    ensures opened_before { result.0.opened_before ≡ search.entry.opened_before }
 {
     let mut search = search;
     let mut left = skip;
@@ -312,6 +392,13 @@ fn put_rest<'a, G: Geometry>(
     ensures put { IsPutBehind search.entry.to_come from result.1 result.2
         ids.old ids.new scores.old scores.new }
     ensures capacity { result.0.capacity ≡ search.entry.capacity }
+    // All is opened for all answers, and else what is for those that are put and one more.
+    ensures worked { let searched = search.entry in result.2 ≡ true → result.0.opened
+        ≡ opened_by_search (G.meaning searched.geometry) searched.tree searched.limit }
+    ensures cut { let searched = search.entry in result.2 ≡ false → result.0.opened
+        ≡ opened_by_search (G.meaning searched.geometry) searched.tree
+        (Some (searched.given + (result.1 - from) + 1)) }
+    ensures opened_before { result.0.opened_before ≡ search.entry.opened_before }
 {
     let mut search = search;
     let mut end = from;

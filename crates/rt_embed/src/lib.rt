@@ -5,21 +5,25 @@
 //! numbers, many in one call. [`summary_of`] says how large a tree is. No pointer and no C is here.
 #![tactic(auto)]
 
+mod boxes;
 mod columns;
 mod finding;
 mod measuring;
 mod plain_query;
 mod question;
 mod reply_sink;
+mod rows;
 mod score;
 mod session;
 mod summary;
 mod vertex;
 
+pub use boxes::{Boxes, PlainBox};
 pub use columns::Columns;
 pub use finding::{Found, Stop};
-pub use plain_query::PlainQuery;
+pub use plain_query::{InvalidQuery, PlainQuery};
 pub use question::{Measure, Question};
+pub use rows::{BoxList, Row, Rows};
 pub use score::Score;
 pub use session::Session;
 pub use summary::{Summary, copy_level_sizes, summary_of};

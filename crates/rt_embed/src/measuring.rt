@@ -1,10 +1,11 @@
 //! How many boxes a query in numbers asks for, and what it costs.
 
 ghost use Rattle.std.specs.Prelude.{◌≡◌, ◌<◌, ◌≤◌, length, map, min, take};
+ghost use Rattle.rt_embed.specs.{Costs.{opened_by_measures, opened_to_measure}};
 ghost use Rattle.rt_embed.specs.Questions.{AllAsk, AsksNone, measure_of, measured_of};
-ghost use Rattle.rt_filter.specs.{Replies.{meaning_of}, Reports.{scanned}};
-ghost use Rattle.rt_geo.specs.{Orders.{by_id, order_score}, Regions.{region_accepts}};
-ghost use Rattle.rt_search.specs.{Answers.{accepted}, Work.{opened_by_count, opened_by_search}};
+ghost use Rattle.rt_filter.specs.{Replies.{meaning_of}, Reports.{counted_in_shape, scanned}};
+ghost use Rattle.rt_geo.specs.{Orders.{by_id, order_score}, Regions.{region_accepts, region_state}};
+ghost use Rattle.rt_search.specs.{Answers.{accepted}, Work.{CountsOn, opened_by_count, opened_by_search}};
 
 use crate::plain_query::PlainQuery;
 use crate::question::{Measure, Question};
@@ -29,13 +30,15 @@ pub(crate) fn measure_each(
     ensures most { result.0 ≤ min (length queries.now) (length measured.old) }
     ensures stop { result.0 < min (length queries.now) (length measured.old)
         → AsksNone vertices.now queries.now result.0 }
+    ensures worked { CountsOn frontier.opened (opened_by_measures tree.now vertices.now measure
+        (take result.0 queries.now)) result.1.opened }
     ensures capacity { result.1.capacity ≡ frontier.capacity }
 {
     let most = queries.len().min(measured.len());
     let mut frontier = frontier;
     let mut done: usize = 0;
     while done < most {
-        let Some(question) = queries[done].question(vertices) else {
+        let Some(question) = queries[done].question(vertices).ok() else {
             return (done, frontier);
         };
         let (found, left) = measure_one(tree, frontier, measure, &question);
@@ -55,6 +58,8 @@ fn measure_one(
 ) -> (u64, Frontier)
     requires capacity { length tree.now.entries ≤ frontier.capacity }
     ensures measured { result.0 ≡ measure_of tree.now measure question.now }
+    ensures worked { CountsOn frontier.opened (opened_to_measure tree.now measure question.now)
+        result.1.opened }
     ensures capacity { result.1.capacity ≡ frontier.capacity }
 {
     match measure {
@@ -70,6 +75,7 @@ fn cost_of_find(tree: &Tree, frontier: Frontier, question: &Question) -> (u64, F
     ensures opened { let asked = question.now in
         let meaning = meaning_of asked.region asked.layers asked.order in
         result.0 ≡ opened_by_search meaning tree.now asked.limit }
+    ensures worked { CountsOn frontier.opened result.0 result.1.opened }
     ensures capacity { result.1.capacity ≡ frontier.capacity }
 {
     let shape = OnLayers {
@@ -86,6 +92,7 @@ fn cost_of_count(tree: &Tree, frontier: Frontier, question: &Question) -> (u64, 
     requires capacity { length tree.now.entries ≤ frontier.capacity }
     ensures opened { let meaning = meaning_of question.now.region question.now.layers by_id in
         result.0 ≡ opened_by_count meaning tree.now }
+    ensures worked { CountsOn frontier.opened result.0 result.1.opened }
     ensures capacity { result.1.capacity ≡ frontier.capacity }
 {
     let shape = OnLayers {
@@ -103,6 +110,8 @@ fn count_boxes(tree: &Tree, frontier: Frontier, question: &Question) -> (u64, Fr
     requires capacity { length tree.now.entries ≤ frontier.capacity }
     ensures accepted { let meaning = meaning_of question.now.region question.now.layers by_id in
         result.0 ≡ length (accepted tree.now.entries meaning) }
+    ensures worked { let meaning = meaning_of question.now.region question.now.layers by_id in
+        CountsOn frontier.opened (opened_by_count meaning tree.now) result.1.opened }
     ensures capacity { result.1.capacity ≡ frontier.capacity }
 {
     // (called, so that it is known which layers the entries have)
@@ -123,6 +132,8 @@ fn count_in_region(tree: &Tree, frontier: Frontier, region: &Region) -> (u64, Fr
     requires capacity { length tree.now.entries ≤ frontier.capacity }
     ensures accepted { let meaning = scanned (region_accepts region.now) (order_score by_id) in
         result.0 ≡ length (accepted tree.now.entries meaning) }
+    ensures worked { let meaning = counted_in_shape (region_accepts region.now) (region_state region.now) in
+        CountsOn frontier.opened (opened_by_count meaning tree.now) result.1.opened }
     ensures capacity { result.1.capacity ≡ frontier.capacity }
 {
     match region {
@@ -144,6 +155,8 @@ fn count_in_shape<S: Shape + Drop>(tree: &Tree, frontier: Frontier, shape: S) ->
     requires capacity { length tree.now.entries ≤ frontier.capacity }
     ensures accepted { let meaning = scanned (S.accepts shape) (order_score by_id) in
         result.0 ≡ length (accepted tree.now.entries meaning) }
+    ensures worked { let meaning = counted_in_shape (S.accepts shape) (S.state shape) in
+        CountsOn frontier.opened (opened_by_count meaning tree.now) result.1.opened }
     ensures capacity { result.1.capacity ≡ frontier.capacity }
 {
     let geometry = Guided { shape, rank: ById };

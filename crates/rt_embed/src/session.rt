@@ -1,13 +1,14 @@
 //! Sessions of a table.
 
-ghost use Rattle.std.specs.Prelude.{◌≡◌, ◌<◌, ◌≤◌, ℕ, List, [], IfErr, IfOk, IsTrue, OnErr, Some, length, map, min, take, true};
+ghost use Rattle.std.specs.Prelude.{◌≡◌, ◌<◌, ◌≤◌, ℕ, List, [], IfErr, IfOk, IfSome, IsOk, IsSome, IsTrue, OnErr, Some, None, ◌+◌, length, map, min, take, true};
 ghost use Rattle.rt_command.specs.Choices.{Choices};
-ghost use Rattle.rt_embed.specs.{Columns.{AreColumns, HasColumns, StopsAtColumns, lists_of}, Findings.{HasFound}};
-ghost use Rattle.rt_embed.specs.{Questions.{AllAsk, AsksNone, measured_of}, Sessions.{IsRunOf}};
+ghost use Rattle.rt_embed.specs.{GivenBoxes.{HasBoxes, StopsAtBoxes}, Findings.{HasFound}};
+ghost use Rattle.rt_embed.specs.{Costs.{opened_by_finds, opened_by_measures, opened_by_text}, Questions.{AllAsk, AsksNone, measured_of}};
+ghost use Rattle.rt_embed.specs.Sessions.{HasOpened, IsRunOf};
 ghost use Rattle.rt_filter.specs.{Lines.{numbered_lines}, Stages.{HasLoaded, Stops, is_of_load}};
 ghost use Rattle.rt_filter.specs.Replies.{Loaded, any_fault, output, tree_of};
 
-use crate::columns::{Columns, table_of};
+use crate::boxes::{Boxes, table_of};
 use crate::finding::{Found, find_each};
 use crate::measuring::measure_each;
 use crate::plain_query::PlainQuery;
@@ -25,8 +26,8 @@ use std::sync::Arc;
 
 /// A loaded tree, which sessions share, and what one of them needs for itself: the room of its searches, and its reply.
 ///
-/// It is seen as the tree and the reply to the last text. No call changes the tree. A call that finds no memory returns
-/// [`AllocError`], and the session can be asked again.
+/// It is seen as the tree, the reply to the last text, and how many nodes were opened in its frontier. No call changes the
+/// tree. A call that finds no memory returns [`AllocError`], and the session can be asked again.
 #[derive(Drop)]
 pub struct Session {
     tree: Arc<Tree>,
@@ -38,10 +39,15 @@ pub struct Session {
 impl Model for Session {
     ghost use Rattle.std.specs.Prelude.{◌≤◌, IfSome, length};
     ghost use Rattle.rt_embed.specs.Sessions.{Contents};
+    ghost use Rattle.std.specs.Option.{option_map};
 
     ghost Value = { Contents };
 
-    ghost view = { λ a. record { tree = a.tree.value; reply = a.reply.items } };
+    ghost view = { λ a. record {
+      tree = a.tree.value;
+      reply = a.reply.items;
+      opened = option_map (λ f. f.opened) a.frontier;
+    } };
 
     ghost invariant = { λ a. IfSome a.frontier (λ f. length a.tree.value.entries ≤ f.capacity) };
 }
@@ -52,6 +58,7 @@ impl Session {
     pub fn open(alloc: Global, settings: &Settings, table: &[u8]) -> Result<Session, RunFault>
         ensures loaded { IfOk result (λ session. HasLoaded settings.now table.now session.tree) }
         ensures reply { IfOk result (λ session. session.reply ≡ []) }
+        ensures ready { IfOk result (λ session. IsSome session.opened) }
         ensures stops { IfErr result (λ fault. Stops settings.now table.now fault) }
         ensures of_load { IfErr result (λ fault. IsTrue (is_of_load (Some fault))) }
     {
@@ -65,20 +72,20 @@ impl Session {
         }
     }
 
-    /// The first session of a table in columns, packed under the settings, whose header isn't used; or why there is none.
-    pub fn of_columns(
+    /// The first session of a table of boxes, packed under the settings, whose header isn't used; or why there is none.
+    pub fn of_boxes<B: Boxes>(
         alloc: Global,
         settings: &Settings,
-        columns: Columns<'_>,
+        boxes: &B,
     ) -> Result<Session, RunFault>
-        requires columns { AreColumns (lists_of columns) }
+        requires fit { B.fit boxes.now }
         ensures loaded { IfOk result (λ session.
-            HasColumns settings.now (lists_of columns.entry) session.tree) }
+            HasBoxes settings.now (B.given boxes.now) session.tree) }
         ensures reply { IfOk result (λ session. session.reply ≡ []) }
-        ensures fault { IfErr result (λ fault.
-            StopsAtColumns settings.now (lists_of columns.entry) fault) }
+        ensures ready { IfOk result (λ session. IsSome session.opened) }
+        ensures fault { IfErr result (λ fault. StopsAtBoxes settings.now (B.given boxes.now) fault) }
     {
-        let table = table_of(alloc, settings.max_entries(), columns)?;
+        let table = table_of(alloc, settings.max_entries(), boxes)?;
         let tree = Tree::pack(alloc, table, settings.fanout())?;
         let frontier = Frontier::new(alloc, tree.len())?;
         Ok(Session::of_tree(alloc, tree, frontier)?)
@@ -86,7 +93,11 @@ impl Session {
 
     /// One more session of the same table, for another thread, with nothing replied.
     pub fn share(&self, alloc: Global) -> Result<Session, AllocError>
-        ensures { IfOk result (λ session. session ≡ record { tree = self.now.tree; reply = [] }) }
+        ensures { IfOk result (λ session. session ≡ record {
+          tree = self.now.tree;
+          reply = [];
+          opened = Some 0;
+        }) }
     {
         let tree = Arc::try_clone(&self.tree)?;
         let frontier = Frontier::new(alloc, tree.len())?;
@@ -106,7 +117,7 @@ impl Session {
 
     /// Answers query lines, a run of its own: they are numbered from 1, and the last needs no line feed. The reply is kept,
     /// in the place of the last one. Returns whether some line is faulty. After an error nothing is kept.
-    #[tactic(auto, using(crate::proofs::Headline::run_of_table))]
+    #[tactic(auto, using(crate::proofs::Headline::run_of_table), unfolding(crate::specs::Costs::opened_by_text))]
     pub fn ask(&mut self, alloc: Global, queries: &[u8]) -> Result<bool, AllocError>
         // What a run of the program writes for a table's bytes and these, where the tree is that of the table.
         ensures headline { IfOk result (λ bad. (choices : Choices) (table : List ℕ)
@@ -118,6 +129,9 @@ impl Session {
         ensures bad { IfOk result (λ bad. bad ≡ any_fault (numbered_lines queries.now true)) }
         ensures forgotten { IfErr result (λ _. self.new.reply ≡ []) }
         ensures tree { self.new.tree ≡ self.old.tree }
+        // The nodes that are opened are those of the lines, one after the other.
+        ensures worked { IfOk result (λ _.
+            HasOpened self.old.opened (opened_by_text self.old.tree queries.now) self.new.opened) }
     {
         let room = mem::replace(&mut self.reply, Vec::new(alloc));
         let frontier = self.take_frontier(alloc)?;
@@ -149,7 +163,13 @@ impl Session {
             queries.now ends.new ids.new scores.new found) }
         ensures untouched { OnErr result ((ends.new ≡ ends.old) × (ids.new ≡ ids.old)
             × (scores.new ≡ scores.old)) }
-        ensures same { self.new ≡ self.old }
+        // No query is searched for more answers than are left out, have a place, or are the next one.
+        ensures worked { let wanted = skip + length ids.old + 1 in IfOk result (λ found.
+            HasOpened self.old.opened (opened_by_finds self.old.tree vertices.now wanted
+            (take (found.done + 1) queries.now)) self.new.opened) }
+        // With a frontier the call can't fail.
+        ensures made { IsSome self.old.opened → IsOk result }
+        ensures same { self.new ≡ record self.old { opened = self.new.opened } }
     {
         let frontier = self.take_frontier(alloc)?;
         let (found, left) = find_each(
@@ -176,7 +196,11 @@ impl Session {
         ensures stop { IfOk result (λ n. n < min (length queries.now) (length measured.old)
             → AsksNone vertices.now queries.now n) }
         ensures untouched { OnErr result (measured.new ≡ measured.old) }
-        ensures same { self.new ≡ self.old }
+        ensures worked { IfOk result (λ n. HasOpened self.old.opened (opened_by_measures
+            self.old.tree vertices.now measure (take n queries.now)) self.new.opened) }
+        // With a frontier the call can't fail.
+        ensures made { IsSome self.old.opened → IsOk result }
+        ensures same { self.new ≡ record self.old { opened = self.new.opened } }
     {
         let frontier = self.take_frontier(alloc)?;
         let (done, left) = measure_each(&self.tree, frontier, measure, queries, vertices, measured);
@@ -201,7 +225,11 @@ impl Session {
     // The first session of a tree.
     fn of_tree(alloc: Global, tree: Tree, frontier: Frontier) -> Result<Session, AllocError>
         requires room { length tree.entries ≤ frontier.capacity }
-        ensures { IfOk result (λ session. session ≡ record { tree = tree; reply = [] }) }
+        ensures { IfOk result (λ session. session ≡ record {
+          tree = tree;
+          reply = [];
+          opened = Some frontier.opened;
+        }) }
     {
         Ok(Session {
             tree: Arc::new(alloc, tree)?,
@@ -213,7 +241,9 @@ impl Session {
     // The frontier, a new one where the last call found no memory.
     fn take_frontier(&mut self, alloc: Global) -> Result<Frontier, AllocError>
         ensures room { IfOk result (λ f. length self.old.tree.entries ≤ f.capacity) }
-        ensures same { self.new ≡ self.old }
+        ensures made { IsSome self.old.opened → IsOk result }
+        ensures counted { IfOk result (λ f. IfSome self.old.opened (λ n. f.opened ≡ n)) }
+        ensures same { self.new ≡ record self.old { opened = None } }
     {
         match self.frontier.take() {
             Some(frontier) => Ok(frontier),

@@ -3,7 +3,7 @@
 use crate::expect::expect_eq;
 use crate::given::{BOXES, open};
 use crate::plain::{ALL, VERTICES, measured, plain_of};
-use rt_embed::{Found, Measure, PlainQuery, Score, Session, Stop};
+use rt_embed::{Found, InvalidQuery, Measure, PlainQuery, Score, Session, Stop, Vertex};
 use rt_text::{answer_line, ok_line};
 use std::process::Abort;
 use std::test::Fail;
@@ -185,40 +185,78 @@ fn what_is_full_is_gone_on_with(rt: HostRuntime) -> Result<(), Fail> {
     Ok(())
 }
 
-// Queries that ask no question.
-fn invalid() -> [PlainQuery; 6] {
-    let reversed = PlainQuery {
+// A polygon of some vertices of a list.
+fn polygon(first_vertex: u32, vertices: u32) -> PlainQuery {
+    PlainQuery {
+        region: 5,
+        first_vertex,
+        vertices,
+        ..ALL
+    }
+}
+
+// Queries that are invalid, each with the reason.
+fn invalid() -> [(PlainQuery, InvalidQuery); 11] {
+    let sides = PlainQuery {
         region: 1,
         min_x: 1,
         ..ALL
     };
+    // (the region is judged first, and what is reserved last)
+    let all = PlainQuery {
+        region: 6,
+        order: 3,
+        layers: 0,
+        reserved: 1,
+        ..ALL
+    };
+    let reserved = PlainQuery { reserved: 1, ..ALL };
     [
-        reversed,
-        PlainQuery { region: 6, ..ALL },
-        PlainQuery { order: 3, ..ALL },
-        PlainQuery {
-            region: 5,
-            vertices: 4,
-            ..ALL
-        },
-        PlainQuery {
-            region: 5,
-            vertices: 2,
-            ..ALL
-        },
-        PlainQuery {
-            region: 5,
-            first_vertex: u32::MAX,
-            vertices: u32::MAX,
-            ..ALL
-        },
+        (sides, InvalidQuery::Sides),
+        (PlainQuery { region: 6, ..ALL }, InvalidQuery::Region),
+        (PlainQuery { order: 3, ..ALL }, InvalidQuery::Order),
+        (PlainQuery { layers: 0, ..ALL }, InvalidQuery::NoLayer),
+        (reserved, InvalidQuery::Reserved),
+        (all, InvalidQuery::Region),
+        (polygon(0, 4), InvalidQuery::MissingVertices),
+        (polygon(u32::MAX, u32::MAX), InvalidQuery::MissingVertices),
+        (polygon(0, 2), InvalidQuery::VertexCount),
+        (polygon(0, 0), InvalidQuery::VertexCount),
+        (
+            PlainQuery {
+                order: 3,
+                layers: 0,
+                ..reserved
+            },
+            InvalidQuery::Order,
+        ),
     ]
+}
+
+#[test]
+fn an_invalid_query_has_its_reason(rt: HostRuntime) {
+    for (query, reason) in invalid() {
+        expect_eq(&rt, query.question(&VERTICES), Err(reason));
+    }
+    let flat = [0, 1, 2].map(|x| Vertex { x, y: 0 });
+    expect_eq(
+        &rt,
+        polygon(0, 3).question(&flat),
+        Err(InvalidQuery::NotConvex),
+    );
+    let many = [Vertex { x: 0, y: 0 }; 17];
+    expect_eq(
+        &rt,
+        polygon(0, 17).question(&many),
+        Err(InvalidQuery::VertexCount),
+    );
+    expect_eq(&rt, polygon(0, 3).question(&VERTICES).is_ok(), true);
 }
 
 #[test]
 fn a_query_that_asks_no_question_ends_the_call(rt: HostRuntime) -> Result<(), Fail> {
     let mut session = open(&rt, 2, BOXES);
-    for query in invalid() {
+    for (query, _reason) in invalid() {
         let (mut ends, mut ids, mut counts) = ([0; 2], [0; 9], [7; 2]);
         let queries = [ALL, query];
         let found = session.find(

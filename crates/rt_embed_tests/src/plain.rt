@@ -28,6 +28,7 @@ pub(crate) const ALL: PlainQuery = PlainQuery {
     near_y: 0,
     first_vertex: 0,
     vertices: 0,
+    reserved: 0,
     layers: u64::MAX,
     limit: u64::MAX,
 };

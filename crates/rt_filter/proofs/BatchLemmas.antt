@@ -1,11 +1,13 @@
 -- The lines of a text that is whole in memory, one after the other.
-use Rattle.std.proofs.Common.{◌≡◌, ◌∙◌, ◌+◌, ◌<◌, ◌||◌, ℕ, Bool, List, [], ◌∷◌, length, take, drop, Option, Some, None, true, false, refl}
-use Rattle.std.proofs.{Common.{ap, arith}, lemmas.List.{Concat.{flat_map-cons}}}
+use Rattle.std.proofs.Common.{◌≡◌, ◌∙◌, ◌+◌, ◌%◌, ◌^◌, ◌<◌, ◌||◌, ℕ, Bool, List, [], ◌∷◌, length, take, drop, Option, Some, None, true, false, refl}
+use Rattle.std.proofs.{Common.{ap, arith}, lemmas.List.{Concat.{flat_map-cons}, Sums.{sum_by-cons}}}
 use Rattle.memchr.specs.Find.{IsFirstByte, is_byte}
 use Rattle.rt_filter.specs.{Pushes.{WasCut}, Replies.{Loaded, any_fault, is_fault, output, parsed_line, reply}, Stages.{line_feed, lines_from}}
 use Rattle.rt_filter.proofs.LineLemmas.{found, found_none, lines_from-found, lines_from-last}
 use Rattle.rt_filter.proofs.PushLemmas.{AllBut, pushed_cut, pushed_next}
 use Rattle.std.specs.Io.KnownBytes.{Appends}
+use Rattle.rt_filter.specs.Works.{opened_by_line, opened_by_lines}
+use Rattle.rt_search.specs.Work.{CountsOn}
 
 -- the first ends before a line feed
 pub line_before : (bytes : List ℕ) (n number : ℕ) → IsFirstByte (is_byte line_feed) bytes (Some n)
@@ -33,6 +35,16 @@ pub line_judged : (bad : Bool) (lines more : List (ℕ × List ℕ)) (line : ℕ
     → (bad || any_fault lines) ≡ ((bad || is_fault (parsed_line line.1)) || any_fault more)
 line_judged true lines more line is = refl
 line_judged false lines more line is = ap any_fault is
+
+-- the nodes of the first line that is left were counted
+pub line_worked : (loaded : Loaded) (all mid new : ℕ) (lines more : List (ℕ × List ℕ)) (line : ℕ × List ℕ) → lines ≡ line ∷ more
+    → all % 2 ^ 64 ≡ (mid + opened_by_lines loaded lines) % 2 ^ 64 → CountsOn mid (opened_by_line loaded (parsed_line line.1)) new
+    → all % 2 ^ 64 ≡ (new + opened_by_lines loaded more) % 2 ^ 64
+line_worked loaded all mid new lines more line is total counted =
+    let whole = rw is at total in
+    let split : opened_by_lines loaded (line ∷ more) ≡ opened_by_line loaded (parsed_line line.1) + opened_by_lines loaded more =
+    sum_by-cons _ line more in
+    omega (arith, whole, counted, split)
 
 -- it was cut short
 pub line_cut : (loaded : Loaded) (all : List ℕ) (old mid new : Option (List ℕ)) (lines more : List (ℕ × List ℕ)) (line : ℕ × List ℕ)

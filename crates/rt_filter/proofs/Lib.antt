@@ -1,6 +1,6 @@
 mod BatchLemmas
 mod BufferLemmas
-mod FindLemmas
+pub mod FindLemmas
 pub mod LayerLemmas
 mod LevelLemmas
 mod LineLemmas
@@ -10,4 +10,4 @@ mod RunLemmas
 mod RunRows
 mod ServingLemmas
 mod TreeLemmas
-mod WorkLemmas
+pub mod WorkLemmas

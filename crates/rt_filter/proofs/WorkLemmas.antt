@@ -10,9 +10,9 @@ use Rattle.rt_geo.specs.declared.{disc.Disc.{Disc}, geometry.Within.{Within}, la
 use Rattle.rt_geo.specs.declared.{order.Order.TheVariants.{ById, Near, Smallest}, region.Region.{Region}, shapes.Circle.{Circle}}
 use Rattle.rt_geo.specs.declared.region.Region.TheVariants as region
 use Rattle.rt_tree.specs.{Packed.{IsSound, Packed}, declared.tree.Node.{Node}}
-use Rattle.rt_search.specs.{Answers.{answers}, Work.{CountsOn, info_of_node, opened_by_search}}
+use Rattle.rt_search.specs.{Answers.{answers}, Work.{CountsOn, info_of_node, opened_by_count, opened_by_search}}
 use Rattle.rt_search.proofs.Agreeing.{counts_same, searches_same}
-use Rattle.rt_filter.specs.{Replies.{Loaded, meaning_of, parsed_line, tree_of}, Stages.{loaded_tree}, Reports.{opened_for, opened_in_shape, scored_up_to}}
+use Rattle.rt_filter.specs.{Replies.{Loaded, meaning_of, parsed_line, tree_of}, Stages.{loaded_tree}, Reports.{counted_in_shape, opened_for, opened_in_shape, scored_up_to, searched_in_shape}}
 use Rattle.rt_filter.specs.{Works.{opened_by_line, opened_by_lines}, declared.query.Report.{Report, TheVariants.{Answers, Count}}}
 use Rattle.rt_filter.proofs.LayerLemmas.{answers-all, with_bits}
 
@@ -87,12 +87,17 @@ module _ (t : Packed) (sound : IsSound t) (asked : Region) where
       (λ bound none v w n some. rw none (grind (arith, layers_alike layers v w n)))
 
   -- as many as the cost of the query on these layers
+  pub found_on_layers : (layers : Layers) (order : Order) (limit : Option ℕ)
+      → opened_by_search (searched_in_shape (on_layers_accepts (region_accepts asked) layers) (on_layers_state (region_state asked) layers) order limit) t limit
+      ≡ opened_by_search (meaning_of asked layers order) t limit
+  found_on_layers layers (ById rank) limit = refl
+  found_on_layers layers (Near rank) limit = on_layers_unscored layers (Near rank) limit
+  found_on_layers layers (Smallest rank) limit = refl
+
   pub opened_on_layers : (layers : Layers) (report : Report)
       → opened_in_shape t (on_layers_accepts (region_accepts asked) layers) (on_layers_state (region_state asked) layers) report
       ≡ opened_for t asked layers report
-  opened_on_layers layers (Answers (ById rank) limit) = refl
-  opened_on_layers layers (Answers (Near rank) limit) = on_layers_unscored layers (Near rank) limit
-  opened_on_layers layers (Answers (Smallest rank) limit) = refl
+  opened_on_layers layers (Answers order limit) = found_on_layers layers order limit
   opened_on_layers layers Count = refl
 
   module _ (layers : Layers) (bits : layers.bits ≡ 18446744073709551615) where
@@ -120,13 +125,22 @@ module _ (t : Packed) (sound : IsSound t) (asked : Region) where
         (λ bound none v w n some. rw none (grind (arith, alike v w n some)))
 
     -- as many as the cost of the query on all layers
+    pub found_on_all : (order : Order) (limit : Option ℕ)
+        → opened_by_search (searched_in_shape (region_accepts asked) (region_state asked) order limit) t limit
+        ≡ opened_by_search (meaning_of asked layers order) t limit
+    found_on_all (ById rank) limit = plain_same (ById rank) limit
+    found_on_all (Near rank) limit = opened_scored (Near rank) limit
+    found_on_all (Smallest rank) limit = plain_same (Smallest rank) limit
+
+    pub counted_on_all : opened_by_count (counted_in_shape (region_accepts asked) (region_state asked)) t
+        ≡ opened_by_count (meaning_of asked layers by_id) t
+    counted_on_all = counts_same t (plain by_id) (meaning_of asked layers by_id) sound
+        (λ v w n some. grind (arith, alike v w n some))
+
     pub opened_on_all : (report : Report)
         → opened_in_shape t (region_accepts asked) (region_state asked) report ≡ opened_for t asked layers report
-    opened_on_all (Answers (ById rank) limit) = plain_same (ById rank) limit
-    opened_on_all (Answers (Near rank) limit) = opened_scored (Near rank) limit
-    opened_on_all (Answers (Smallest rank) limit) = plain_same (Smallest rank) limit
-    opened_on_all Count = counts_same t (plain by_id) (meaning_of asked layers by_id) sound
-        (λ v w n some. grind (arith, alike v w n some))
+    opened_on_all (Answers order limit) = found_on_all order limit
+    opened_on_all Count = counted_on_all
 
     -- and so by a disc that means both
     pub opened_by_disc : (order : Order) (report : Report) (limit : Option ℕ) (circle : Circle) (disc : Disc)

@@ -44,9 +44,17 @@ abbrev pub ordered_up_to : Order → (limit : Option ℕ) → Meaning → Meanin
 ordered_up_to (Near rank) limit meaning = scored_up_to limit meaning
 ordered_up_to other limit meaning = meaning
 
--- how many nodes the report opens on the boxes that a shape accepts, which answers these states
+-- what is searched for the boxes that a shape accepts, which answers these states, in an order
+abbrev pub searched_in_shape : (accepts : Extent → Bool) → (state : Info → Within) → Order → (limit : Option ℕ) → Meaning
+searched_in_shape accepts state order limit =
+    ordered_up_to order limit (guided accepts state (order_score order) (order_estimate order))
+
+-- and what is counted
+abbrev pub counted_in_shape : (accepts : Extent → Bool) → (state : Info → Within) → Meaning
+counted_in_shape accepts state = guided accepts state (order_score by_id) (order_estimate by_id)
+
+-- how many nodes the report opens on the boxes that a shape accepts
 abbrev pub opened_in_shape : Packed → (accepts : Extent → Bool) → (state : Info → Within) → Report → ℕ
 opened_in_shape tree accepts state (Answers order limit) =
-    opened_by_search (ordered_up_to order limit (guided accepts state (order_score order) (order_estimate order))) tree limit
-opened_in_shape tree accepts state Count =
-    opened_by_count (guided accepts state (order_score by_id) (order_estimate by_id)) tree
+    opened_by_search (searched_in_shape accepts state order limit) tree limit
+opened_in_shape tree accepts state Count = opened_by_count (counted_in_shape accepts state) tree

@@ -2,7 +2,8 @@
 
 ghost use Rattle.std.specs.Prelude.{◌≡◌, ◌+◌, ◌-◌, ◌<◌, ◌≤◌, ◌^◌, ◌∷◌, ℕ, IfOk, OnOk, false, true, length};
 ghost use Rattle.rt_filter.specs.{Lines.{numbered_lines}, Pushes.{Pushed}, Stages.{lines_from, loaded_tree}};
-ghost use Rattle.rt_filter.specs.Replies.{Loaded, any_fault, output, tree_of};
+ghost use Rattle.rt_filter.specs.{Replies.{Loaded, any_fault, output, tree_of}, Works.{opened_by_lines}};
+ghost use Rattle.rt_search.specs.Work.{CountsOn};
 
 use crate::progress::{Progress, line_end};
 use crate::reply::flush_pushed;
@@ -29,6 +30,9 @@ pub fn answer_batch<K: Sink>(
         → Pushed K.written K.failed sink.old sink.new result
         (output loaded (numbered_lines text.now true)) }
     ensures bad { IfOk result (λ done. done.0 ≡ any_fault (numbered_lines text.now true)) }
+    // The nodes that are opened are those of the lines, one after the other.
+    ensures worked { IfOk result (λ done. CountsOn frontier.opened
+        (opened_by_lines (loaded_tree tree.now) (numbered_lines text.now true)) done.1.opened) }
     ensures capacity { IfOk result (λ done. done.1.capacity ≡ frontier.capacity) }
     ensures flushed { OnOk result (K.waits sink.old ≡ false → K.waits sink.new ≡ false) }
 {
@@ -49,6 +53,8 @@ fn answer_text<K: Sink>(
     ensures pushed { Pushed K.written K.failed sink.old sink.new result
         (output (loaded_tree tree.now) (numbered_lines text.now true)) }
     ensures bad { IfOk result (λ done. done.0 ≡ any_fault (numbered_lines text.now true)) }
+    ensures worked { IfOk result (λ done. CountsOn frontier.opened
+        (opened_by_lines (loaded_tree tree.now) (numbered_lines text.now true)) done.1.opened) }
     ensures capacity { IfOk result (λ done. done.1.capacity ≡ frontier.capacity) }
     ensures flushed { OnOk result (K.waits sink.old ≡ false → K.waits sink.new ≡ false) }
 {

@@ -196,6 +196,8 @@ impl Progress {
             (loaded_tree tree.now) (self.old.lines + 1) (parsed_line line.now)) }
         ensures lines { self.new.lines ≡ self.old.lines + 1 }
         ensures bad { self.new.bad ≡ (self.old.bad || is_fault (parsed_line line.now)) }
+        ensures worked { IfOk result (λ left. CountsOn frontier.opened
+            (opened_by_line (loaded_tree tree.now) (parsed_line line.now)) left.opened) }
         ensures capacity { IfOk result (λ left. left.capacity ≡ frontier.capacity) }
         ensures untouched { is_pushed.new ≡ false
             → (is_pushed.old ≡ false) × (sink.new ≡ sink.old) }

@@ -1,5 +1,5 @@
 -- The scores that an order gives, and the estimates that it answers.
-use Rattle.std.specs.Prelude.{ℕ, ◌==◌, Bool, true, false, if◌then◌else◌}
+use Rattle.std.specs.Prelude.{ℕ, ◌==◌, if◌then◌else◌}
 use Rattle.rt_geo.specs.Boxes.{area}
 use Rattle.rt_geo.specs.Distances.{near2}
 use Rattle.rt_geo.specs.Laws.{Extent}
@@ -22,12 +22,6 @@ abbrev pub order_score : Order → Extent → ℕ
 order_score (ById rank) = λ b. 0
 order_score (Near rank) = λ b. near2 rank.0 b.bounds
 order_score (Smallest rank) = λ b. area b.bounds
-
--- nodes have scores by distance alone
-abbrev pub scores_nodes : Order → Bool
-scores_nodes (ById rank) = false
-scores_nodes (Near rank) = true
-scores_nodes (Smallest rank) = false
 
 -- what it answers. The area of a node says nothing of the boxes inside
 abbrev pub order_estimate : Order → Info → ℕ

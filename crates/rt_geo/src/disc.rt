@@ -61,12 +61,6 @@ impl Disc {
 }
 
 impl Geometry for Disc {
-    const SCORES_NODES: bool = true;
-
-    ghost use Rattle.std.specs.Prelude.{true};
-
-    ghost SCORES_NODES = { true };
-
     ghost use Rattle.rt_geo.specs.{Discs.{disc_meaning}, Orders.{near, order_estimate, order_score}};
     ghost use Rattle.rt_geo.specs.Regions.{disc_accepts, disc_state};
 
@@ -81,9 +75,7 @@ impl Geometry for Disc {
     }
 
     ghost use Rattle.rt_geo.specs.{Lemmas.Guided.{guided-lawful}, Lemmas.Orders.{order-admissible}};
-    ghost use Rattle.rt_geo.specs.Lemmas.{Laws.{IsUnscored-never}, Shapes.{disc-faithful}};
+    ghost use Rattle.rt_geo.specs.Lemmas.Shapes.{disc-faithful};
 
     ghost lawful = { λ d. guided-lawful (disc-faithful d) (order-admissible (near d.centre)) };
-
-    ghost no_scores = { λ d. IsUnscored-never (order_estimate (near d.centre)) };
 }

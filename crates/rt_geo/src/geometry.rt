@@ -78,17 +78,20 @@ pub trait Shape {
 
 /// The order of a query's answers: the lowest score first.
 pub trait Rank {
-    /// Whether nodes have scores. Where they haven't, each scores 0: whatever the first answer is, each node that may hold
-    /// answers has to be opened before it.
-    const SCORES_NODES: bool;
-
-    ghost SCORES_NODES: { Bool };
-
     /// The score of a box: the meaning of the rank.
     ghost score: { Self → Extent → ℕ };
 
     /// What the call `score` answers.
     ghost estimate: { Self → Info → ℕ };
+
+    /// Whether nodes have scores, which they have unless a rank says otherwise. Without them each node scores 0: whatever
+    /// the first answer is, each node that may hold answers has to be opened before it.
+    #[inline(always)]
+    fn scores_nodes() -> bool
+        ensures { result ≡ false → (r : Self) → IsUnscored (estimate r) }
+    {
+        true
+    }
 
     /// The score of an entry; for a node a number that is at most the score of each box inside.
     fn score(&self, info: &Info) -> u128
@@ -96,9 +99,6 @@ pub trait Rank {
 
     /// An entry's score is exact, a node's is admissible.
     ghost admissible: { (r : Self) → IsAdmissible (score r) (estimate r) };
-
-    /// The law of `SCORES_NODES`.
-    ghost no_scores: { (r : Self) → SCORES_NODES ≡ false → IsUnscored (estimate r) };
 }
 
 /// A query function: which boxes a query accepts, and the order of its answers.
@@ -106,14 +106,17 @@ pub trait Rank {
 /// [`Guided`](crate::Guided) makes one of a [`Shape`] and a [`Rank`];
 /// `docs/write-your-own-geometry.md` shows how to write one whole.
 pub trait Geometry {
-    /// Whether nodes have scores. Where they haven't, each scores 0, and a search opens all that may hold answers before
-    /// the first answer.
-    const SCORES_NODES: bool;
-
-    ghost SCORES_NODES: { Bool };
-
     /// Which boxes are accepted, the score of each of them, and what `check` answers.
     ghost meaning: { Self → Meaning };
+
+    /// Whether nodes have scores, which they have unless a geometry says otherwise. Without them each node scores 0, and a
+    /// search opens all that may hold answers before the first answer.
+    #[inline(always)]
+    fn scores_nodes() -> bool
+        ensures { result ≡ false → (g : Self) → IsUnscored (estimate_of (meaning g)) }
+    {
+        true
+    }
 
     /// The state and the score of an entry or of a node.
     fn check(&self, info: &Info) -> Verdict
@@ -123,7 +126,4 @@ pub trait Geometry {
 
     /// The leaf, pruning, fullness and admissibility laws.
     ghost lawful: { (g : Self) → IsLawful (meaning g) };
-
-    /// The law of `SCORES_NODES`.
-    ghost no_scores: { (g : Self) → SCORES_NODES ≡ false → IsUnscored (estimate_of (meaning g)) };
 }

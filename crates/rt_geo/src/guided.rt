@@ -16,12 +16,13 @@ pub struct Guided<S: Shape, R: Rank> {
 }
 
 impl<S: Shape, R: Rank> Geometry for Guided<S, R> {
-    const SCORES_NODES: bool = R::SCORES_NODES;
-
-    ghost SCORES_NODES = { R.SCORES_NODES };
-
     ghost meaning = { λ g.
         guided (S.accepts g.shape) (S.state g.shape) (R.score g.rank) (R.estimate g.rank) };
+
+    #[inline(always)]
+    fn scores_nodes() -> bool {
+        R::scores_nodes()
+    }
 
     fn check(&self, info: &Info) -> Verdict {
         Verdict {
@@ -33,6 +34,4 @@ impl<S: Shape, R: Rank> Geometry for Guided<S, R> {
     ghost use Rattle.rt_geo.specs.Lemmas.Guided.{guided-lawful};
 
     ghost lawful = { λ g. guided-lawful (S.faithful g.shape) (R.admissible g.rank) };
-
-    ghost no_scores = { λ g. R.no_scores g.rank };
 }

@@ -12,13 +12,6 @@ pub enum Order {
 }
 
 impl Rank for Order {
-    // (by distance they have them)
-    const SCORES_NODES: bool = true;
-
-    ghost use Rattle.std.specs.Prelude.{true};
-
-    ghost SCORES_NODES = { true };
-
     ghost use Rattle.rt_geo.specs.Orders.{order_estimate, order_score};
 
     ghost score = { order_score };
@@ -33,9 +26,7 @@ impl Rank for Order {
         }
     }
 
-    ghost use Rattle.rt_geo.specs.Lemmas.{Laws.{IsUnscored-never}, Orders.{order-admissible}};
+    ghost use Rattle.rt_geo.specs.Lemmas.Orders.{order-admissible};
 
     ghost admissible = { order-admissible };
-
-    ghost no_scores = { λ r. IsUnscored-never (order_estimate r) };
 }

@@ -19,12 +19,6 @@ pub struct Near(pub Point);
 pub struct Smallest;
 
 impl Rank for ById {
-    const SCORES_NODES: bool = false;
-
-    ghost use Rattle.std.specs.Prelude.{false};
-
-    ghost SCORES_NODES = { false };
-
     ghost use Rattle.rt_geo.specs.Orders.{order_estimate, order_score};
     ghost use Rattle.rt_geo.specs.declared.order.Order.TheVariants as order;
 
@@ -32,24 +26,21 @@ impl Rank for ById {
 
     ghost estimate = { λ r. order_estimate (order.ById r) };
 
+    #[inline(always)]
+    fn scores_nodes() -> bool {
+        false
+    }
+
     fn score(&self, _info: &Info) -> u128 {
         0
     }
 
-    ghost use Rattle.rt_geo.specs.Lemmas.Orders.{order-admissible, order-unscored};
+    ghost use Rattle.rt_geo.specs.Lemmas.Orders.{order-admissible};
 
     ghost admissible = { λ r. order-admissible (order.ById r) };
-
-    ghost no_scores = { λ r. order-unscored (order.ById r) };
 }
 
 impl Rank for Near {
-    const SCORES_NODES: bool = true;
-
-    ghost use Rattle.std.specs.Prelude.{true};
-
-    ghost SCORES_NODES = { true };
-
     ghost use Rattle.rt_geo.specs.Orders.{order_estimate, order_score};
     ghost use Rattle.rt_geo.specs.declared.order.Order.TheVariants as order;
 
@@ -61,26 +52,23 @@ impl Rank for Near {
         near2(self.0, info.bounds)
     }
 
-    ghost use Rattle.rt_geo.specs.Lemmas.Orders.{order-admissible, order-unscored};
+    ghost use Rattle.rt_geo.specs.Lemmas.Orders.{order-admissible};
 
     ghost admissible = { λ r. order-admissible (order.Near r) };
-
-    ghost no_scores = { λ r. order-unscored (order.Near r) };
 }
 
 impl Rank for Smallest {
-    const SCORES_NODES: bool = false;
-
-    ghost use Rattle.std.specs.Prelude.{false};
-
-    ghost SCORES_NODES = { false };
-
     ghost use Rattle.rt_geo.specs.Orders.{order_estimate, order_score};
     ghost use Rattle.rt_geo.specs.declared.order.Order.TheVariants as order;
 
     ghost score = { λ r. order_score (order.Smallest r) };
 
     ghost estimate = { λ r. order_estimate (order.Smallest r) };
+
+    #[inline(always)]
+    fn scores_nodes() -> bool {
+        false
+    }
 
     fn score(&self, info: &Info) -> u128 {
         // The boxes inside a node may be as small as a point.
@@ -91,9 +79,7 @@ impl Rank for Smallest {
         }
     }
 
-    ghost use Rattle.rt_geo.specs.Lemmas.Orders.{order-admissible, order-unscored};
+    ghost use Rattle.rt_geo.specs.Lemmas.Orders.{order-admissible};
 
     ghost admissible = { λ r. order-admissible (order.Smallest r) };
-
-    ghost no_scores = { λ r. order-unscored (order.Smallest r) };
 }

@@ -12,13 +12,12 @@ use crate::geometry::{Geometry, Info, Verdict};
 pub struct Unscored<G: Geometry>(pub G);
 
 impl<G: Geometry> Geometry for Unscored<G> {
-    const SCORES_NODES: bool = false;
-
-    ghost use Rattle.std.specs.Prelude.{false};
-
-    ghost SCORES_NODES = { false };
-
     ghost meaning = { λ g. unscored_meaning (G.meaning g.0) };
+
+    #[inline(always)]
+    fn scores_nodes() -> bool {
+        false
+    }
 
     fn check(&self, info: &Info) -> Verdict {
         let verdict = self.0.check(info);
@@ -26,9 +25,7 @@ impl<G: Geometry> Geometry for Unscored<G> {
         Verdict { score, ..verdict }
     }
 
-    ghost use Rattle.rt_geo.specs.Lemmas.Unscored.{unscored-lawful, unscored-unscored};
+    ghost use Rattle.rt_geo.specs.Lemmas.Unscored.{unscored-lawful};
 
     ghost lawful = { λ g. unscored-lawful (G.meaning g.0) (G.lawful g.0) };
-
-    ghost no_scores = { λ g _. unscored-unscored (G.meaning g.0) };
 }

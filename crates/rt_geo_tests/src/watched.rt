@@ -31,11 +31,11 @@ impl<G: Geometry> Watched<G> {
 }
 
 impl<G: Geometry> Geometry for Watched<G> {
-    const SCORES_NODES: bool = G::SCORES_NODES;
-
-    ghost SCORES_NODES = { G.SCORES_NODES };
-
     ghost meaning = { λ w. G.meaning w.geometry };
+
+    fn scores_nodes() -> bool {
+        G::scores_nodes()
+    }
 
     fn check(&self, info: &Info) -> Verdict {
         self.checks.set(self.checks.get().wrapping_add(1));
@@ -44,6 +44,4 @@ impl<G: Geometry> Geometry for Watched<G> {
     }
 
     ghost lawful = { λ w. G.lawful w.geometry };
-
-    ghost no_scores = { λ w. G.no_scores w.geometry };
 }

@@ -1,8 +1,8 @@
 -- What a handle owns.
 use Rattle.std.specs.Prelude.{Option, Some, None}
-use base.Fml.{Fml, ftrue}
+use base.Fml.{Fml, feq}
 use denote.RattleType.{RattleType}
-use denote.RawPtr.{Ptr}
+use denote.RawPtr.{Ptr, null_ptr}
 use Rattle.std_alloc.specs.Box.Ownership.{box_owns}
 use Rattle.std_heap.specs.contracts.GlobalAllocator.TheImpl.{ghosts}
 use Rattle.std_heap.specs.declared.Global.{Global}
@@ -17,7 +17,7 @@ heap = record { memory = record { seal = record {} } }
 abbrev pub box_at : (type : RattleType) → Ptr → type.Denot → Fml
 box_at = box_owns (ghosts.dealloc_token heap)
 
--- the box of the session that is held; no memory where none is
+-- the box of the session that is held; where none is, the pointer is null
 abbrev pub holds : Ptr → Option Contents → Fml
-holds at None = ftrue
+holds at None = feq Ptr at null_ptr
 holds at (Some session) = box_at the_row at session

@@ -5,7 +5,7 @@ use Rattle.std.specs.Prelude.{MatchOption}
 use Rattle.rt_geo.specs.Laws.{IsLawful, IsUnscored, Meaning, estimate_of}
 use Rattle.rt_tree.specs.{Packed.{IsSound, Packed}, Sorting.{limited}}
 use Rattle.rt_search.specs.{Answers.{Answer, answers}, Items.{Gathered, Limited}, Kept.{AllEntries, IsTakenOut}}
-use Rattle.rt_search.specs.{Kept.{taken_entry}, Progress.{HasEnded, HasGathered, IsGiven, IsGoing, IsInLimit, gathers}}
+use Rattle.rt_search.specs.{Kept.{taken_entry}, Progress.{HasEnded, HasGathered, IsGiven, IsGoing, IsInLimit}}
 use Rattle.rt_search.specs.{Joining.{join_answers}, Progress.{left}, Remaining.{remaining}, Work.{HasWorked, its_children, one_node}}
 use Rattle.rt_search.specs.{Walking.{answers_in_tree}, declared.item.Item.{Item}}
 use Rattle.rt_search.proofs.{Answering.{given}, Giving.{drop_step, few_given, next_in_limit}, Joined.{answers_joined}}
@@ -43,38 +43,36 @@ work_is {meaning} {t} unscored all next some =
     let is = work meaning t all.tree unscored next some in
     record { in_nodes = all.reached.nodes ∙ sym (is one_node); in_checks = all.reached.checks ∙ sym (is its_children) }
 
-some_limit : (scores_nodes : Bool) (limit : Option ℕ) → gathers scores_nodes limit ≡ true → limit ≢ Some 0
-some_limit scores_nodes limit gathered is = absurd (grind arith)
-
 -- a search that finds all at once, whose hits are these now
-pub record IsHit (scores_nodes : Bool) (meaning : Meaning) (t : Packed) (limit : Option ℕ) (given opened asked : ℕ)
+pub record IsHit (gathers : Bool) (meaning : Meaning) (t : Packed) (limit : Option ℕ) (given opened asked : ℕ)
     (queue : Limited) (hits : Gathered) (found : List Item) : Type 0 where
-  pub gathered : gathers scores_nodes limit ≡ true
+  pub gathered : gathers ≡ true
   pub unscored : IsUnscored (estimate_of meaning)
+  pub some : limit ≢ Some 0
   pub room : length t.entries ≤ hits.capacity
   pub same : hits.capacity ≡ queue.capacity
   pub none : queue.items ≡ []
   pub is_sorted : hits.is_sorted ≡ true
   pub all : HasGathered meaning t limit given opened asked found
 
-module _ {scores_nodes : Bool} {meaning : Meaning} {t : Packed} {limit : Option ℕ} {so_far opened asked : ℕ}
+module _ {gathers : Bool} {meaning : Meaning} {t : Packed} {limit : Option ℕ} {so_far opened asked : ℕ}
     {queue : Limited} {hits : Gathered} {found : List Item}
-    (now : IsHit scores_nodes meaning t limit so_far opened asked queue hits found) where
+    (now : IsHit gathers meaning t limit so_far opened asked queue hits found) where
   still : (next : ℕ) → HasGathered meaning t limit next opened asked hits.items
-      → IsGoing scores_nodes meaning t limit next opened asked queue hits
+      → IsGoing gathers meaning t limit next opened asked queue hits
   still next new =
       let gathered = now.gathered in
       let sorted = now.is_sorted in
       record {
         same_room = now.same;
         giving = λ h. absurd (grind arith);
-        gathering = λ _. record { room = now.room; none_waits = now.none; before = λ h. absurd (grind arith); after = λ _. new };
+        gathering = λ _. record { unscored = now.unscored; some = now.some; room = now.room; none_waits = now.none; before = λ h. absurd (grind arith); after = λ _. new };
       }
 
   -- a hit was taken out, or none was left
   pub hit : limit ≢ Some so_far → (out : Option Answer) → AllEntries found → IsTakenOut (taken_entry out) found hits.items
-      → MatchOption out (HasEnded scores_nodes meaning t limit so_far opened asked queue hits)
-      (λ a. IsGiven scores_nodes meaning t limit so_far opened asked a queue hits)
+      → MatchOption out (HasEnded gathers meaning t limit so_far opened asked queue hits)
+      (λ a. IsGiven gathers meaning t limit so_far opened asked a queue hits)
   hit more None entries out =
       let all = now.all in
       let over = given meaning t None found hits.items entries out in
@@ -82,7 +80,7 @@ module _ {scores_nodes : Bool} {meaning : Meaning} {t : Packed} {limit : Option 
       record {
         going = still so_far (record { tree = all.tree; in_limit = all.in_limit; to_come = all.to_come ∙ same; reached = all.reached });
         answer = all.to_come ∙ end_of_all limit so_far _ over;
-        worked = work_is now.unscored all limit (some_limit scores_nodes limit now.gathered);
+        worked = work_is now.unscored all limit now.some;
       }
   hit more (Some a) entries out =
       let all = now.all in
@@ -108,27 +106,26 @@ all_found {meaning} law t sound items joined =
 
 -- ---- between answers
 
-module _ {scores_nodes : Bool} {meaning : Meaning} {t : Packed} {limit : Option ℕ} {so_far opened asked : ℕ}
-    {queue : Limited} {hits : Gathered} (going : IsGoing scores_nodes meaning t limit so_far opened asked queue hits) where
+module _ {gathers : Bool} {meaning : Meaning} {t : Packed} {limit : Option ℕ} {so_far opened asked : ℕ}
+    {queue : Limited} {hits : Gathered} (going : IsGoing gathers meaning t limit so_far opened asked queue hits) where
   -- at the limit all work is done
-  stopped_by : (sorts sorted : Bool) → gathers scores_nodes limit ≡ sorts → hits.is_sorted ≡ sorted
-      → (scores_nodes ≡ false → IsUnscored (estimate_of meaning)) → limit ≡ Some so_far
+  stopped_by : (gathered sorted : Bool) → gathers ≡ gathered → hits.is_sorted ≡ sorted → limit ≡ Some so_far
       → HasWorked meaning t limit opened asked
-  stopped_by false sorted queued is unscored at = (going.giving queued).stopped at
-  stopped_by true false gathered is unscored at =
-      let none = ((going.gathering gathered).before is).none_given in
-      absurd (some_limit scores_nodes limit gathered (at ∙ ap Some none))
-  stopped_by true true gathered is unscored at =
-      work_is (unscored (grind arith)) ((going.gathering gathered).after is) limit (some_limit scores_nodes limit gathered)
+  stopped_by false sorted queued is at = (going.giving queued).stopped at
+  stopped_by true false gathered is at =
+      let gathering = going.gathering gathered in
+      absurd (gathering.some (at ∙ ap Some (gathering.before is).none_given))
+  stopped_by true true gathered is at =
+      let gathering = going.gathering gathered in
+      work_is gathering.unscored (gathering.after is) limit gathering.some
 
-  pub stopped : (scores_nodes ≡ false → IsUnscored (estimate_of meaning)) → limit ≡ Some so_far
-      → HasWorked meaning t limit opened asked
-  stopped = stopped_by (gathers scores_nodes limit) hits.is_sorted refl refl
+  pub stopped : limit ≡ Some so_far → HasWorked meaning t limit opened asked
+  stopped = stopped_by gathers hits.is_sorted refl refl
 
   -- no more waits than there are entries
-  few_by : (sorts : Bool) → gathers scores_nodes limit ≡ sorts → length queue.items ≤ length t.entries
+  few_by : (gathered : Bool) → gathers ≡ gathered → length queue.items ≤ length t.entries
   few_by false queued = few_wait meaning t (going.giving queued).state
   few_by true gathered = omega (arith, ap length (going.gathering gathered).none_waits)
 
   pub few : length queue.items ≤ length t.entries
-  few = few_by (gathers scores_nodes limit) refl
+  few = few_by gathers refl

@@ -11,7 +11,7 @@ use Rattle.rt_geo.specs.{declared.{entry.Entry.{Entry}}}
 use Rattle.rt_tree.specs.{Packed.{IsSound, Packed}, Sorting.{limited}, declared.tree.Node.{Node}}
 use Rattle.rt_tree.proofs.SortingLemmas.{IsPermutation-sorted}
 use Rattle.rt_search.specs.{Answers.{Answer, answer_cmp, answers, scored}, Items.{Gathered, Limited}, Limits.{one_less}}
-use Rattle.rt_search.specs.Progress.{HasEnded, IsFound, IsGiven, IsGiving, IsGoing, IsInLimit, IsOver, gathers}
+use Rattle.rt_search.specs.Progress.{HasEnded, IsFound, IsGiven, IsGiving, IsGoing, IsInLimit, IsOver}
 use Rattle.rt_search.specs.Work.{HasWorked, is_reached, search_work, reached_from_root}
 
 -- ---- lists that are given one by one
@@ -93,16 +93,16 @@ few_given meaning t sound limit given a rest first =
       length-scored meaning t.entries,
     )
 
-module _ {scores_nodes : Bool} {meaning : Meaning} {t : Packed} {limit : Option ℕ} {given opened asked : ℕ}
-    {old_queue : Limited} {old_hits : Gathered} (going : IsGoing scores_nodes meaning t limit given opened asked old_queue old_hits)
+module _ {gathers : Bool} {meaning : Meaning} {t : Packed} {limit : Option ℕ} {given opened asked : ℕ}
+    {old_queue : Limited} {old_hits : Gathered} (going : IsGoing gathers meaning t limit given opened asked old_queue old_hits)
     (more : limit ≢ Some given) {opened' asked' : ℕ} {queue : Limited} {hits : Gathered} where
   -- ---- with a queue
 
-  module _ (queued : gathers scores_nodes limit ≡ false) (same : hits.capacity ≡ queue.capacity)
+  module _ (queued : gathers ≡ false) (same : hits.capacity ≡ queue.capacity)
       (room : queue.capacity ≡ old_queue.capacity) where
     pub give : {a : Answer} → queue.wanted ≡ one_less old_queue.wanted → IsFound meaning t opened' asked' queue.wanted
         (drop given (answers t.entries meaning None)) a queue.items
-        → IsGiven scores_nodes meaning t limit given opened' asked' a queue hits
+        → IsGiven gathers meaning t limit given opened' asked' a queue hits
     give {a} less found =
         let was = going.giving queued in
         let worked : HasWorked meaning t (Some (suc given)) opened' asked' = search (rules, work_after) in
@@ -118,7 +118,7 @@ module _ {scores_nodes : Bool} {meaning : Meaning} {t : Packed} {limit : Option 
 
     pub end : queue.wanted ≡ old_queue.wanted → IsOver meaning t opened' asked' queue.wanted
         (drop given (answers t.entries meaning None)) queue.items
-        → HasEnded scores_nodes meaning t limit given opened' asked' queue hits
+        → HasEnded gathers meaning t limit given opened' asked' queue hits
     end same_wanted over =
         let was = going.giving queued in
         search (rules, work_in_all, limited_end)

@@ -1,10 +1,10 @@
 -- What holds of a search between two answers. Nothing that a public call promises speaks of this.
-use Rattle.std.specs.Prelude.{◌≡◌, ◌+◌, ◌-◌, ◌≤◌, ◌^◌, ◌==◌, ℕ, nat_lt, Bool, true, false, if◌then◌else◌, Option, Some, None}
+use Rattle.std.specs.Prelude.{◌≡◌, ◌≢◌, ◌+◌, ◌-◌, ◌≤◌, ◌^◌, ◌==◌, ℕ, Bool, true, false, if◌then◌else◌, Option, Some, None}
 use Rattle.std.specs.Prelude.{IfSome, List, [], ◌∷◌, drop, length}
 use Rattle.std.specs.List.{AllByRecursion, sum_by}
 use Rattle.std.specs.Option.{option_map}
 use Rattle.std.specs.Ordering.{is_gt}
-use Rattle.rt_geo.specs.Laws.{Meaning}
+use Rattle.rt_geo.specs.Laws.{IsUnscored, Meaning, estimate_of}
 use Rattle.rt_geo.specs.declared.geometry.Verdict.{Verdict}
 use Rattle.rt_tree.specs.Packed.{Packed, IsSound, node_at}
 use Rattle.rt_tree.specs.Sorting.{limited}
@@ -140,13 +140,6 @@ pub record IsGiving (meaning : Meaning) (t : Packed)
 
 -- ---- all answers at once
 
--- all answers are found before the first is given, without a queue: nodes have no scores, and more than 64 answers are
--- wanted
-abbrev pub gathers : (scores_nodes : Bool) → (limit : Option ℕ) → Bool
-gathers true limit = false
-gathers false None = true
-gathers false (Some limit) = nat_lt 64 limit
-
 -- how many answers are left up to the limit
 abbrev pub left : (limit : Option ℕ) → (given : ℕ) → Option ℕ
 left limit given = option_map (λ limit. limit - given) limit
@@ -166,9 +159,12 @@ pub record IsFresh (given opened asked : ℕ) (hits : List Item) : Type 0 where
   pub none_asked : asked ≡ 0
   pub none_found : hits ≡ []
 
--- what holds of a search that finds all at once: they are found, and in order, or nothing was done yet
+-- what holds of a search that finds all at once, since nodes have no scores: they are found, and in order, or nothing was
+-- done yet
 pub record IsGathering (meaning : Meaning) (t : Packed)
     (limit : Option ℕ) (given opened asked : ℕ) (items : List Item) (hits : Gathered) : Type 0 where
+  pub unscored : IsUnscored (estimate_of meaning)
+  pub some : limit ≢ Some 0
   pub room : length t.entries ≤ hits.capacity
   pub none_waits : items ≡ []
   pub before : hits.is_sorted ≡ false → IsFresh given opened asked hits.items
@@ -176,25 +172,25 @@ pub record IsGathering (meaning : Meaning) (t : Packed)
 
 -- ---- in one of the two ways
 
--- what holds of a search
-pub record IsGoing (scores_nodes : Bool) (meaning : Meaning) (t : Packed)
+-- what holds of a search: whether it gathers was decided as it started
+pub record IsGoing (gathers : Bool) (meaning : Meaning) (t : Packed)
     (limit : Option ℕ) (given opened asked : ℕ) (queue : Limited) (hits : Gathered) : Type 0 where
   pub same_room : hits.capacity ≡ queue.capacity
-  pub giving : gathers scores_nodes limit ≡ false
+  pub giving : gathers ≡ false
       → IsGiving meaning t limit given opened asked queue.capacity queue.wanted queue.items
-  pub gathering : gathers scores_nodes limit ≡ true → IsGathering meaning t limit given opened asked queue.items hits
+  pub gathering : gathers ≡ true → IsGathering meaning t limit given opened asked queue.items hits
 
 -- an answer is given
-pub record IsGiven (scores_nodes : Bool) (meaning : Meaning) (t : Packed)
+pub record IsGiven (gathers : Bool) (meaning : Meaning) (t : Packed)
     (limit : Option ℕ) (given opened asked : ℕ) (a : Answer) (queue : Limited) (hits : Gathered) : Type 0 where
-  pub going : IsGoing scores_nodes meaning t limit (given + 1) opened asked queue hits
+  pub going : IsGoing gathers meaning t limit (given + 1) opened asked queue hits
   pub answer : drop given (answers t.entries meaning limit) ≡ a ∷ drop (given + 1) (answers t.entries meaning limit)
   pub worked : HasWorked meaning t (Some (given + 1)) opened asked
   pub few : given + 1 ≤ 2 ^ 32
 
 -- no answer is left
-pub record HasEnded (scores_nodes : Bool) (meaning : Meaning) (t : Packed)
+pub record HasEnded (gathers : Bool) (meaning : Meaning) (t : Packed)
     (limit : Option ℕ) (given opened asked : ℕ) (queue : Limited) (hits : Gathered) : Type 0 where
-  pub going : IsGoing scores_nodes meaning t limit given opened asked queue hits
+  pub going : IsGoing gathers meaning t limit given opened asked queue hits
   pub answer : drop given (answers t.entries meaning limit) ≡ []
   pub worked : HasWorked meaning t limit opened asked

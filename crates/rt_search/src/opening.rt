@@ -52,7 +52,7 @@ pub(crate) fn open<G: Geometry>(
     ensures capacity { queue.new.capacity ≡ queue.old.capacity }
     ensures geometry { counted.new.geometry ≡ counted.old.geometry }
 {
-    if G::SCORES_NODES {
+    if G::scores_nodes() {
         *opened += 1;
         open_node(tree, queue, counted, taken);
         return;

@@ -2,13 +2,14 @@
 //!
 //! A search with a queue opens what may hold the next answer before it gives it. Where nodes have no scores, all that may
 //! hold answers has to be opened before the first. So with a limit above [`FEW`], or none, all answers are then found at
-//! once, and sorted, in place of a queue. [`gathers`] decides which way a search goes.
+//! once, and sorted, in place of a queue. [`gathers`] decides once, as a search starts, which way it goes.
 
 ghost use Rattle.std.specs.Prelude.{◌≡◌, ◌≢◌, ◌+◌, ◌≤◌, ℕ, [], ◌∷◌, List, IfNone, IfSome, MatchOption, drop, length};
 ghost use Rattle.std.specs.Prelude.{false, true};
+ghost use Rattle.rt_geo.specs.Laws.{IsUnscored, estimate_of};
 ghost use Rattle.rt_search.specs.{Answers.{Answer, answers}, Limits.{one_less}};
 ghost use Rattle.rt_search.specs.Progress.{HasEnded, HasGathered, IsFound, IsGathering, IsGiven, IsGoing, IsOver};
-ghost use Rattle.rt_search.specs.{Progress.{IsUnderWay, gathers}, Searching.{Searching}};
+ghost use Rattle.rt_search.specs.{Progress.{IsUnderWay}, Searching.{Searching}};
 ghost use Rattle.rt_search.specs.{Work.{CountsOn, HasWorked, opened_by_search}, declared.item.Item.{Item}};
 
 use crate::frontier::{Frontier, Rooms};
@@ -33,6 +34,8 @@ pub struct Search<'a, G: Geometry> {
     rooms: Box<Rooms>,
     counted: Counted<'a, G>,
     limit: Option<u64>,
+    // whether all answers are found before the first is given
+    gathers: bool,
     given: u64,
     opened: u64,
 }
@@ -53,7 +56,7 @@ impl<'a, G: Geometry> Model for Search<'a, G> {
     } };
 
     ghost invariant = { λ s. let rooms = s.rooms.value in
-        IsGoing G.SCORES_NODES (G.meaning s.counted.geometry) s.tree.now s.limit s.given s.opened
+        IsGoing s.gathers (G.meaning s.counted.geometry) s.tree.now s.limit s.given s.opened
         s.counted.asked rooms.queue rooms.hits };
 }
 
@@ -81,12 +84,13 @@ impl<'a, G: Geometry> Search<'a, G> {
         ensures opened_before { result.opened_before ≡ frontier.opened }
     {
         let mut rooms = frontier.rooms;
-        begin::<G>(tree, &mut rooms, limit);
+        let gathers = begin::<G>(tree, &mut rooms, limit);
         Search {
             tree,
             rooms,
             counted,
             limit,
+            gathers,
             given: 0,
             opened: 0,
         }
@@ -124,6 +128,7 @@ impl<'a, G: Geometry> Search<'a, G> {
             &mut self.counted,
             &mut self.opened,
             self.limit,
+            self.gathers,
         )?;
         self.given += 1;
         Some(answer)
@@ -154,9 +159,11 @@ impl<'a, G: Geometry> Search<'a, G> {
 // Whether all answers are found at once, without a queue.
 #[inline(always)]
 fn gathers<G: Geometry>(limit: Option<u64>) -> bool
-    ensures { result ≡ gathers G.SCORES_NODES limit }
+    ensures unscored { result ≡ true → (geometry : G) →
+        IsUnscored (estimate_of (G.meaning geometry)) }
+    ensures some { result ≡ true → limit ≢ Some 0 }
 {
-    if G::SCORES_NODES {
+    if G::scores_nodes() {
         return false;
     }
     match limit {
@@ -165,12 +172,12 @@ fn gathers<G: Geometry>(limit: Option<u64>) -> bool
     }
 }
 
-// Gives up what the rooms held. The root waits, where there is a queue.
+// Gives up what the rooms held, and decides which way the search goes. The root waits, where there is a queue.
 #[inline(always)]
-fn begin<G: Geometry>(tree: &Tree, rooms: &mut Rooms, limit: Option<u64>)
+fn begin<G: Geometry>(tree: &Tree, rooms: &mut Rooms, limit: Option<u64>) -> bool
     requires capacity { length tree.now.entries ≤ rooms.old.queue.capacity }
     requires same_room { rooms.old.hits.capacity ≡ rooms.old.queue.capacity }
-    ensures going { (geometry : G) → IsGoing G.SCORES_NODES (G.meaning geometry) tree.now limit
+    ensures going { (geometry : G) → IsGoing result (G.meaning geometry) tree.now limit
         0 0 0 rooms.new.queue rooms.new.hits }
     ensures capacity { rooms.new.queue.capacity ≡ rooms.old.queue.capacity }
     ensures opened { rooms.new.opened ≡ rooms.old.opened }
@@ -178,9 +185,10 @@ fn begin<G: Geometry>(tree: &Tree, rooms: &mut Rooms, limit: Option<u64>)
     rooms.queue.clear(limit);
     if gathers::<G>(limit) {
         rooms.hits.clear();
-        return;
+        return true;
     }
     put_root(tree, &mut rooms.queue);
+    false
 }
 
 // The next answer, where the limit isn't reached. `None` where none is left.
@@ -191,22 +199,23 @@ fn advance<G: Geometry>(
     counted: &mut Counted<'_, G>,
     opened: &mut u64,
     limit: Option<u64>,
+    gathers: bool,
 ) -> Option<(i64, u128)>
     requires state { let meaning = G.meaning counted.old.geometry in (given : ℕ) ×
-        ((limit ≢ Some given) × IsGoing G.SCORES_NODES meaning tree.now limit given opened.old
+        ((limit ≢ Some given) × IsGoing gathers meaning tree.now limit given opened.old
         counted.old.asked rooms.old.queue rooms.old.hits) }
     ensures step { let meaning = G.meaning counted.old.geometry in (given : ℕ) →
-        limit ≢ Some given → IsGoing G.SCORES_NODES meaning tree.now limit given opened.old
+        limit ≢ Some given → IsGoing gathers meaning tree.now limit given opened.old
         counted.old.asked rooms.old.queue rooms.old.hits → MatchOption result
-        (HasEnded G.SCORES_NODES meaning tree.now limit given opened.new counted.new.asked
+        (HasEnded gathers meaning tree.now limit given opened.new counted.new.asked
         rooms.new.queue rooms.new.hits)
-        (λ a. IsGiven G.SCORES_NODES meaning tree.now limit given opened.new counted.new.asked a
+        (λ a. IsGiven gathers meaning tree.now limit given opened.new counted.new.asked a
         rooms.new.queue rooms.new.hits) }
     ensures capacity { rooms.new.queue.capacity ≡ rooms.old.queue.capacity }
     ensures opened_before { rooms.new.opened ≡ rooms.old.opened }
     ensures geometry { counted.new.geometry ≡ counted.old.geometry }
 {
-    if gathers::<G>(limit) {
+    if gathers {
         gather(tree, &mut rooms.hits, counted, opened, limit);
         return rooms.hits.take();
     }
@@ -238,33 +247,36 @@ fn gather<G: Geometry>(
     if hits.is_sorted() {
         return;
     }
-    find_all(tree, hits, counted, opened, limit);
+    // (in locals of its own, so that a search stays in registers)
+    let mut own = counted.take();
+    *opened = find_all(tree, hits, &mut own, limit);
+    *counted = own;
 }
 
-// Finds all answers, and puts those up to the limit in order.
+// Finds all answers, and puts those up to the limit in order. Returns how many nodes were opened.
 #[inline(always)]
 fn find_all<G: Geometry>(
     tree: &Tree,
     hits: &mut Hits,
     counted: &mut Counted<'_, G>,
-    opened: &mut u64,
     limit: Option<u64>,
-)
+) -> u64
     requires capacity { length tree.now.entries ≤ hits.old.capacity }
     requires asked { counted.old.asked ≡ 0 }
     requires none { hits.old.items ≡ [] }
     requires unsorted { hits.old.is_sorted ≡ false }
-    ensures found { HasGathered (G.meaning counted.old.geometry) tree.now limit 0 opened.new
+    ensures found { HasGathered (G.meaning counted.old.geometry) tree.now limit 0 result
         counted.new.asked hits.new.items }
     ensures sorted { hits.new.is_sorted ≡ true }
     ensures capacity { hits.new.capacity ≡ hits.old.capacity }
     ensures geometry { counted.new.geometry ≡ counted.old.geometry }
 {
-    *opened = walk(tree, hits, counted);
+    let opened = walk(tree, hits, counted);
     match limit {
         None => hits.sort(),
         Some(limit) => hits.sort_first(limit),
     }
+    opened
 }
 
 // Takes items out of the queue until an entry comes: the next answer. None comes where no item is left.

@@ -174,7 +174,7 @@ fn expect_first_answers<G: Geometry>(
     let answers = &want.answers[..count.min(want.answers.len())];
     for place in 0..answers.len() + 2 {
         expect_eq(rt, first.next(), answer_at(answers, place));
-        if !G::SCORES_NODES {
+        if !G::scores_nodes() {
             expect_eq(rt, first.opened(), if count == 0 { 0 } else { want.opened });
         }
     }

@@ -8,12 +8,6 @@ use rt_geo::{Geometry, Info, Verdict, Within};
 pub struct Uneven;
 
 impl Geometry for Uneven {
-    const SCORES_NODES: bool = true;
-
-    ghost use Rattle.std.specs.Prelude.{true};
-
-    ghost SCORES_NODES = { true };
-
     ghost use Rattle.rt_search_tests.specs.Uneven.{uneven};
 
     ghost meaning = { λ _. uneven };
@@ -33,8 +27,4 @@ impl Geometry for Uneven {
     ghost use Rattle.rt_search_tests.specs.Uneven.{uneven-lawful};
 
     ghost lawful = { λ _. uneven-lawful };
-
-    ghost use Rattle.rt_geo.specs.{Laws.{estimate_of}, Lemmas.Laws.{IsUnscored-never}};
-
-    ghost no_scores = { λ _. IsUnscored-never (estimate_of uneven) };
 }

@@ -27,11 +27,11 @@ impl<G: Geometry> Watched<G> {
 }
 
 impl<G: Geometry> Geometry for Watched<G> {
-    const SCORES_NODES: bool = G::SCORES_NODES;
-
-    ghost SCORES_NODES = { G.SCORES_NODES };
-
     ghost meaning = { λ w. G.meaning w.geometry };
+
+    fn scores_nodes() -> bool {
+        G::scores_nodes()
+    }
 
     fn check(&self, info: &Info) -> Verdict {
         let place = self.checks.get();
@@ -45,6 +45,4 @@ impl<G: Geometry> Geometry for Watched<G> {
     }
 
     ghost lawful = { λ w. G.lawful w.geometry };
-
-    ghost no_scores = { λ w. G.no_scores w.geometry };
 }

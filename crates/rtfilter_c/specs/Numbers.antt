@@ -1,9 +1,13 @@
 -- What the calls for queries in numbers give.
 use Rattle.std.specs.Prelude.{◌≡◌, ◌⊎◌, ℕ, ◌==◌, if◌then◌else◌, List, IfSome, Option, length, map, take}
+use Rattle.std.specs.{Option.{option_map_or}, Result.{result_err}}
 use Rattle.rt_embed.specs.{Questions.{AllAsk, AsksNone, measured_of}, Sessions.{Contents}}
 use Rattle.rt_embed.specs.declared.finding.Found.{Found}
 use Rattle.rt_embed.specs.declared.finding.Stop.{Stop}
 use Rattle.rt_embed.specs.declared.finding.Stop.TheVariants.{BadQuery, Complete, Full}
+use Rattle.rt_embed.specs.PlainQueries.{judged}
+use Rattle.rt_embed.specs.declared.plain_query.InvalidQuery.{InvalidQuery}
+use Rattle.rt_embed.specs.declared.plain_query.InvalidQuery.TheVariants as invalid
 use Rattle.rt_embed.specs.declared.plain_query.PlainQuery.{PlainQuery}
 use Rattle.rt_embed.specs.declared.question.Measure.{Measure}
 use Rattle.rt_embed.specs.declared.vertex.Vertex.{Vertex}
@@ -12,6 +16,21 @@ use Rattle.rtfilter_c.specs.declared.numbers.Progress.{Progress}
 -- why no more queries are answered, by the code
 abbrev pub stop_of : (code : ℕ) → Stop
 stop_of code = if code == 5 then Full else if code == 7 then BadQuery else Complete
+
+-- the number of a query's cause of being invalid
+abbrev pub number_of : InvalidQuery → ℕ
+number_of invalid.Region = 1
+number_of invalid.Order = 2
+number_of invalid.Sides = 3
+number_of invalid.VertexCount = 4
+number_of invalid.MissingVertices = 5
+number_of invalid.NotConvex = 6
+number_of invalid.NoLayer = 7
+number_of invalid.Reserved = 8
+
+-- and 0 of a query that is valid
+abbrev pub cause_of : (vertices : List Vertex) → PlainQuery → ℕ
+cause_of vertices query = option_map_or number_of (result_err (judged vertices query)) 0
 
 -- what was found, and why no more
 abbrev pub finds : Progress → Stop → Found

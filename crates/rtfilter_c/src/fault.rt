@@ -1,9 +1,11 @@
 //! The fault of a table in numbers.
 
-ghost use Rattle.std.specs.Prelude.{◌≡◌};
-ghost use Rattle.rtfilter_c.specs.Faults.{numbers_of};
+ghost use Rattle.std.specs.Prelude.{◌≡◌, IfSome, None, Some};
+ghost use Rattle.rt_text.specs.declared.tables.TableFault.{TableFault};
+ghost use Rattle.rtfilter_c.specs.Faults.{HasField, HasMessage, fault_with, numbers_of};
 
-use rt_text::{Axis, TableFault};
+use crate::texts::copy_front;
+use rt_text::{Axis, TableFault, fault_line};
 
 /// What is wrong with a table: `rtfilter_fault` of include/rtfilter.h.
 #[repr(C)]
@@ -61,4 +63,71 @@ pub(crate) fn numbers_of(fault: TableFault) -> Option<Fault>
         record,
         field,
     })
+}
+
+/// Writes what the program prints of a table with a fault, without the line feed: the first of its bytes, as many as have room.
+/// Returns its length. Where the numbers are those of no fault, it is 0, and nothing is written.
+#[unsafe(no_mangle)]
+pub extern "C" fn rtfilter_engine_fault_message(fault: &Fault, room: &mut [u8]) -> usize
+    ensures message { (cause : TableFault) → HasField cause → numbers_of cause ≡ Some fault.now
+        → HasMessage cause result room.old room.new }
+    ensures none { ((cause : TableFault) → numbers_of cause ≡ Some fault.now → ⊥)
+        → (result ≡ 0) × (room.new ≡ room.old) }
+{
+    let Some(cause) = fault_of(*fault) else {
+        return 0;
+    };
+    write_message(&cause, room)
+}
+
+// Writes the message of a fault, and returns its length.
+fn write_message(cause: &TableFault, room: &mut [u8]) -> usize
+    ensures { HasMessage cause.now result room.old room.new }
+{
+    let line = fault_line(cause);
+    let line = line.bytes();
+    let message = &line[..line.len().saturating_sub(1)];
+    copy_front(message, room);
+    message.len()
+}
+
+// The fault that has these numbers.
+fn fault_of(numbers: Fault) -> Option<TableFault>
+    ensures sound { IfSome result (λ cause. numbers_of cause ≡ Some numbers) }
+    ensures whole { (cause : TableFault) → HasField cause → numbers_of cause ≡ Some numbers
+        → result ≡ Some cause }
+{
+    let cause = fault_with(numbers)?;
+    if numbers_of(cause) == Some(numbers) {
+        Some(cause)
+    } else {
+        None
+    }
+}
+
+// The only fault that may have these numbers.
+fn fault_with(numbers: Fault) -> Option<TableFault>
+    ensures { result ≡ fault_with numbers }
+{
+    let number = numbers.record;
+    let field = (numbers.field % 256) as u8;
+    match numbers.kind {
+        TOO_MANY => Some(TableFault::TooMany { number }),
+        FIELD_COUNT => Some(TableFault::FieldCount {
+            number,
+            found: numbers.field,
+        }),
+        NOT_NUMBER => Some(TableFault::NotNumber { number, field }),
+        OUT_OF_RANGE => Some(TableFault::OutOfRange { number, field }),
+        MIN_ABOVE_MAX => {
+            let axis = if numbers.field == MIN_X {
+                Axis::X
+            } else {
+                Axis::Y
+            };
+            Some(TableFault::MinAboveMax { number, axis })
+        }
+        REPEATED => Some(TableFault::Repeated { number }),
+        _ => None,
+    }
 }

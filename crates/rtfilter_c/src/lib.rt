@@ -7,6 +7,7 @@
 mod about;
 mod codes;
 mod fault;
+mod invalid;
 mod numbers;
 mod opening;
 mod texts;

@@ -1,8 +1,8 @@
 //! Queries in numbers.
 
-ghost use Rattle.std.specs.Prelude.{◌≡◌, ◌≢◌, ◌<◌, ◌⊎◌, IfSome, IsSome, length};
-ghost use Rattle.rtfilter_c.specs.Numbers.{HasMeasured, finds, stop_of};
-ghost use Rattle.rt_embed.specs.Findings.{HasFound};
+ghost use Rattle.std.specs.Prelude.{◌≡◌, ◌≢◌, ◌+◌, ◌<◌, ◌⊎◌, IfSome, IsSome, length, take};
+ghost use Rattle.rtfilter_c.specs.{Calls.{HoldsAsked, IsReady, Opens}, Numbers.{HasMeasured, finds, stop_of}};
+ghost use Rattle.rt_embed.specs.{Costs.{opened_by_finds, opened_by_measures}, Findings.{HasFound}};
 
 use crate::codes::{BAD_QUERY, FULL, NO_MEMORY, OK};
 use rt_embed::{Measure, PlainQuery, Score, Stop, Vertex};
@@ -36,7 +36,11 @@ pub extern "C" fn rtfilter_engine_find(
         (finds progress.new (stop_of result))) }
     ensures untouched { result ≡ NO_MEMORY → (progress.new ≡ progress.old)
         × (ends.new ≡ ends.old) × (ids.new ≡ ids.old) × (scores.new ≡ scores.old) }
-    ensures same { session.new.held ≡ session.old.held }
+    ensures worked { result ≢ NO_MEMORY → Opens session.old.held session.new.held (λ tree.
+        let wanted = skip + length ids.old + 1 in
+        opened_by_finds tree vertices.now wanted (take (progress.new.done + 1) queries.now)) }
+    ensures made { IsReady session.old.held → result ≢ NO_MEMORY }
+    ensures same { HoldsAsked session.old.held session.new.held }
     ensures codes { (result ≡ OK) ⊎ (result ≡ FULL) ⊎ (result ≡ BAD_QUERY) ⊎ (result ≡ NO_MEMORY) }
 {
     let mut held = session.take(alloc);
@@ -81,7 +85,10 @@ pub extern "C" fn rtfilter_engine_count(
     requires places { length counts.old ≡ length queries.now }
     ensures measured { HasMeasured session.old.held Measure.Count vertices.now queries.now
         result done.old done.new counts.old counts.new }
-    ensures same { session.new.held ≡ session.old.held }
+    ensures worked { result ≢ NO_MEMORY → Opens session.old.held session.new.held (λ tree.
+        opened_by_measures tree vertices.now Measure.Count (take done.new queries.now)) }
+    ensures made { IsReady session.old.held → result ≢ NO_MEMORY }
+    ensures same { HoldsAsked session.old.held session.new.held }
 {
     measure(
         alloc,
@@ -108,7 +115,10 @@ pub extern "C" fn rtfilter_engine_cost_of_find(
     requires places { length opened.old ≡ length queries.now }
     ensures measured { HasMeasured session.old.held Measure.CostOfFind vertices.now queries.now
         result done.old done.new opened.old opened.new }
-    ensures same { session.new.held ≡ session.old.held }
+    ensures worked { result ≢ NO_MEMORY → Opens session.old.held session.new.held (λ tree.
+        opened_by_measures tree vertices.now Measure.CostOfFind (take done.new queries.now)) }
+    ensures made { IsReady session.old.held → result ≢ NO_MEMORY }
+    ensures same { HoldsAsked session.old.held session.new.held }
 {
     measure(
         alloc,
@@ -135,7 +145,10 @@ pub extern "C" fn rtfilter_engine_cost_of_count(
     requires places { length opened.old ≡ length queries.now }
     ensures measured { HasMeasured session.old.held Measure.CostOfCount vertices.now queries.now
         result done.old done.new opened.old opened.new }
-    ensures same { session.new.held ≡ session.old.held }
+    ensures worked { result ≢ NO_MEMORY → Opens session.old.held session.new.held (λ tree.
+        opened_by_measures tree vertices.now Measure.CostOfCount (take done.new queries.now)) }
+    ensures made { IsReady session.old.held → result ≢ NO_MEMORY }
+    ensures same { HoldsAsked session.old.held session.new.held }
 {
     measure(
         alloc,
@@ -162,7 +175,10 @@ fn measure(
     requires places { length measured.old ≡ length queries.now }
     ensures measured { HasMeasured session.old.held measure vertices.now queries.now
         result done.old done.new measured.old measured.new }
-    ensures same { session.new.held ≡ session.old.held }
+    ensures worked { result ≢ NO_MEMORY → Opens session.old.held session.new.held (λ tree.
+        opened_by_measures tree vertices.now measure (take done.new queries.now)) }
+    ensures made { IsReady session.old.held → result ≢ NO_MEMORY }
+    ensures same { HoldsAsked session.old.held session.new.held }
 {
     let mut held = session.take(alloc);
     let answered = held.measure(alloc, measure, queries, vertices, measured);

@@ -2,12 +2,12 @@
 
 ghost use Rattle.std.specs.Prelude.{◌≡◌, ◌≢◌, ◌<◌, ◌↔◌, ◌⊎◌, false, None, Some, IfSome, IsErrAnd, IsOkAnd, IsSome};
 ghost use Rattle.rt_command.specs.Choices.{AreAllowed, Choices};
-ghost use Rattle.rt_embed.specs.Columns.{AreColumns};
-ghost use Rattle.rtfilter_c.specs.{Calls.{HoldsColumns, HoldsTable, arrays, holds_new}, Faults.{IsFaultInNumbers, ReportsColumnsFault, ReportsFault}};
+ghost use Rattle.rt_embed.specs.Columns.{AreColumns, AreRows, in_columns, in_list, in_rows};
+ghost use Rattle.rtfilter_c.specs.{Calls.{HoldsBoxes, HoldsTable, arrays, holds_new, row_parts}, Faults.{IsFaultInNumbers, ReportsBoxesFault, ReportsFault}};
 
 use crate::codes::{BAD_SETTING, BAD_TABLE, NO_MEMORY, OK};
 use crate::fault::{Fault, numbers_of};
-use rt_embed::{Columns, Session};
+use rt_embed::{BoxList, Boxes, Columns, PlainBox, Row, Rows, Session};
 use rt_filter::{RunFault, Settings};
 use rt_handle::Handle;
 use std::alloc::Global;
@@ -62,27 +62,22 @@ pub extern "C" fn rtfilter_engine_open_arrays(
     fault: &mut Fault,
 ) -> u8
     requires closed { out.old.held ≡ None }
-    requires len { AreColumns
+    requires fit { AreColumns
         (arrays ids.now min_x.now max_x.now min_y.now max_y.now layers.now) }
     ensures opened { let choices : Choices =
         record { header = false; fanout = fanout; max_entries = max_entries } in
-        let columns = arrays ids.now min_x.now max_x.now min_y.now max_y.now layers.now in
-        result ≡ OK → HoldsColumns choices columns out.new.held }
+        let given = in_columns (arrays ids.now min_x.now max_x.now min_y.now max_y.now layers.now) in result ≡ OK → HoldsBoxes choices given out.new.held }
     ensures closed { OK < result → out.new.held ≡ None }
     ensures setting { let choices : Choices =
         record { header = false; fanout = fanout; max_entries = max_entries } in
         (result ≡ BAD_SETTING) ↔ (AreAllowed choices → ⊥) }
     ensures fault { let choices : Choices =
         record { header = false; fanout = fanout; max_entries = max_entries } in
-        let columns = arrays ids.now min_x.now max_x.now min_y.now max_y.now layers.now in
-        result ≡ BAD_TABLE → ReportsColumnsFault choices columns fault.new }
+        let given = in_columns (arrays ids.now min_x.now max_x.now min_y.now max_y.now layers.now) in result ≡ BAD_TABLE → ReportsBoxesFault choices given fault.new }
     ensures no_fault { result ≢ BAD_TABLE → fault.new ≡ fault.old }
     ensures codes { (result ≡ OK) ⊎ (result ≡ BAD_SETTING)
         ⊎ (result ≡ BAD_TABLE) ⊎ (result ≡ NO_MEMORY) }
 {
-    let Some(settings) = Settings::new(false, fanout, max_entries) else {
-        return BAD_SETTING;
-    };
     let columns = Columns {
         ids,
         min_x,
@@ -91,10 +86,102 @@ pub extern "C" fn rtfilter_engine_open_arrays(
         max_y,
         layers,
     };
+    open_boxes(alloc, out, &columns, fanout, max_entries, fault)
+}
+
+/// Opens a session of a table of whole boxes. Codes and fault as of [`rtfilter_engine_open_bytes`].
+#[unsafe(no_mangle)]
+pub extern "C" fn rtfilter_engine_open_boxes(
+    alloc: Global,
+    out: &mut Handle,
+    boxes: &[PlainBox],
+    fanout: u8,
+    max_entries: u32,
+    fault: &mut Fault,
+) -> u8
+    requires closed { out.old.held ≡ None }
+    ensures opened { let choices : Choices =
+        record { header = false; fanout = fanout; max_entries = max_entries } in
+        let given = in_list boxes.now in result ≡ OK → HoldsBoxes choices given out.new.held }
+    ensures closed { OK < result → out.new.held ≡ None }
+    ensures setting { let choices : Choices =
+        record { header = false; fanout = fanout; max_entries = max_entries } in
+        (result ≡ BAD_SETTING) ↔ (AreAllowed choices → ⊥) }
+    ensures fault { let choices : Choices =
+        record { header = false; fanout = fanout; max_entries = max_entries } in
+        let given = in_list boxes.now in result ≡ BAD_TABLE → ReportsBoxesFault choices given fault.new }
+    ensures no_fault { result ≢ BAD_TABLE → fault.new ≡ fault.old }
+    ensures codes { (result ≡ OK) ⊎ (result ≡ BAD_SETTING)
+        ⊎ (result ≡ BAD_TABLE) ⊎ (result ≡ NO_MEMORY) }
+{
+    open_boxes(alloc, out, &BoxList { boxes }, fanout, max_entries, fault)
+}
+
+/// Opens a session of a table in rows, with as many ids and layers, or none. Codes and fault as of
+/// [`rtfilter_engine_open_bytes`].
+#[unsafe(no_mangle)]
+pub extern "C" fn rtfilter_engine_open_rows(
+    alloc: Global,
+    out: &mut Handle,
+    rows: &[Row],
+    ids: &[i64],
+    layers: &[u8],
+    fanout: u8,
+    max_entries: u32,
+    fault: &mut Fault,
+) -> u8
+    requires closed { out.old.held ≡ None }
+    requires fit { AreRows (row_parts rows.now ids.now layers.now) }
+    ensures opened { let choices : Choices =
+        record { header = false; fanout = fanout; max_entries = max_entries } in
+        let given = in_rows (row_parts rows.now ids.now layers.now) in result ≡ OK → HoldsBoxes choices given out.new.held }
+    ensures closed { OK < result → out.new.held ≡ None }
+    ensures setting { let choices : Choices =
+        record { header = false; fanout = fanout; max_entries = max_entries } in
+        (result ≡ BAD_SETTING) ↔ (AreAllowed choices → ⊥) }
+    ensures fault { let choices : Choices =
+        record { header = false; fanout = fanout; max_entries = max_entries } in
+        let given = in_rows (row_parts rows.now ids.now layers.now) in result ≡ BAD_TABLE → ReportsBoxesFault choices given fault.new }
+    ensures no_fault { result ≢ BAD_TABLE → fault.new ≡ fault.old }
+    ensures codes { (result ≡ OK) ⊎ (result ≡ BAD_SETTING)
+        ⊎ (result ≡ BAD_TABLE) ⊎ (result ≡ NO_MEMORY) }
+{
+    let rows = Rows { rows, ids, layers };
+    open_boxes(alloc, out, &rows, fanout, max_entries, fault)
+}
+
+// Opens a session of a table of boxes in arrays of whatever form.
+fn open_boxes<B: Boxes>(
+    alloc: Global,
+    out: &mut Handle,
+    boxes: &B,
+    fanout: u8,
+    max_entries: u32,
+    fault: &mut Fault,
+) -> u8
+    requires closed { out.old.held ≡ None }
+    requires fit { B.fit boxes.now }
+    ensures opened { let choices : Choices =
+        record { header = false; fanout = fanout; max_entries = max_entries } in
+        let given = B.given boxes.now in result ≡ OK → HoldsBoxes choices given out.new.held }
+    ensures closed { OK < result → out.new.held ≡ None }
+    ensures setting { let choices : Choices =
+        record { header = false; fanout = fanout; max_entries = max_entries } in
+        (result ≡ BAD_SETTING) ↔ (AreAllowed choices → ⊥) }
+    ensures fault { let choices : Choices =
+        record { header = false; fanout = fanout; max_entries = max_entries } in
+        let given = B.given boxes.now in result ≡ BAD_TABLE → ReportsBoxesFault choices given fault.new }
+    ensures no_fault { result ≢ BAD_TABLE → fault.new ≡ fault.old }
+    ensures codes { (result ≡ OK) ⊎ (result ≡ BAD_SETTING)
+        ⊎ (result ≡ BAD_TABLE) ⊎ (result ≡ NO_MEMORY) }
+{
+    let Some(settings) = Settings::new(false, fanout, max_entries) else {
+        return BAD_SETTING;
+    };
     open(
         alloc,
         out,
-        Session::of_columns(alloc, &settings, columns),
+        Session::of_boxes(alloc, &settings, boxes),
         fault,
     )
 }

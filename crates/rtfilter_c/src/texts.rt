@@ -1,7 +1,8 @@
 //! Query lines and their reply.
 
 ghost use Rattle.std.specs.Prelude.{◌≡◌, ◌≤◌, ◌⊎◌, IsSome, drop, length, min};
-ghost use Rattle.rtfilter_c.specs.Calls.{HasReply, HoldsNoReply, HoldsRun, HoldsSame, IsForgotten, copied};
+ghost use Rattle.rt_embed.specs.Costs.{opened_by_text};
+ghost use Rattle.rtfilter_c.specs.Calls.{HasReply, HoldsNoReply, HoldsRun, HoldsSame, IsForgotten, Opens, copied};
 
 use crate::codes::{FAULTY_LINE, NO_MEMORY, OK};
 use rt_handle::Handle;
@@ -20,6 +21,8 @@ pub extern "C" fn rtfilter_engine_ask(
     requires open { IsSome session.old.held }
     ensures run { result ≤ FAULTY_LINE
         → HoldsRun session.old.held lines.now result session.new.held }
+    ensures worked { result ≤ FAULTY_LINE → Opens session.old.held session.new.held
+        (λ tree. opened_by_text tree lines.now) }
     ensures memory { result ≡ NO_MEMORY → HoldsNoReply session.new.held }
     ensures same { HoldsSame session.old.held session.new.held }
     ensures reply { HasReply session.new.held (λ reply.
@@ -72,8 +75,8 @@ pub extern "C" fn rtfilter_engine_forget(alloc: Global, session: &mut Handle)
     session.put(held);
 }
 
-// Copies the first bytes, as many as there are and have room, and returns their number.
-fn copy_front(bytes: &[u8], room: &mut [u8]) -> usize
+/// Copies the first bytes, as many as there are and have room, and returns their number.
+pub(crate) fn copy_front(bytes: &[u8], room: &mut [u8]) -> usize
     ensures many { result ≡ min (length bytes.now) (length room.old) }
     ensures copied { room.new ≡ copied bytes.now room.old }
 {

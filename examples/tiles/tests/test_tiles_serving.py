@@ -461,8 +461,6 @@ class Processes(unittest.TestCase):
 
     def test_an_interrupt(self) -> None:
         ends = [(signal.SIGTERM, -signal.SIGTERM), (signal.SIGINT, 0)]
-        if signal.getsignal(signal.SIGINT) == signal.SIG_IGN:  # as in the background of a shell's script
-            ends.pop()
         for number, status in ends:
             server = self.enterContext(Server(self.table, *self.options))
             everyone = descendants_of(server.process.pid)

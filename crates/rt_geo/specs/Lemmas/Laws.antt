@@ -1,12 +1,12 @@
 -- When an extent is part of another, and what follows for a caller that keeps a geometry's condition.
-use Rattle.std.proofs.Common.{◌≡◌, refl, Bool, true, false, ℕ}
+use Rattle.std.proofs.Common.{refl, Bool}
 use Rattle.rt_geo.specs.Entries.{HasBox, HasLayer}
 use Rattle.rt_geo.specs.Boxes.{IsRect}
 use Rattle.rt_geo.specs.Layers.{IsOneLayer}
-use Rattle.rt_geo.specs.Laws.{AllAccepted, Extent, IsBoxInside, IsPart, IsUnscored, extent_of_entry}
+use Rattle.rt_geo.specs.Laws.{AllAccepted, Extent, IsBoxInside, IsPart, extent_of_entry}
 use Rattle.rt_geo.specs.Lemmas.Boxes.{inside-same, inside-trans}
 use Rattle.rt_geo.specs.Lemmas.Layers.{subset-same, subset-trans}
-use Rattle.rt_geo.specs.declared.{entry.Entry.{Entry}, geometry.Info.{Info}}
+use Rattle.rt_geo.specs.declared.{entry.Entry.{Entry}}
 
 -- ---- parts
 
@@ -47,9 +47,3 @@ IsBoxInside-part b part whole p h =
 pub AllAccepted-part : (accepts : Extent → Bool) (part whole : Extent)
     → IsPart part whole → AllAccepted accepts whole → AllAccepted accepts part
 AllAccepted-part accepts part whole p all b h = all b (IsBoxInside-part b part whole p h)
-
--- ---- node scores
-
--- what scores nodes owes nothing of nodes without a score
-pub IsUnscored-never : (score : Info → ℕ) → true ≡ false → IsUnscored score
-IsUnscored-never score h = cc

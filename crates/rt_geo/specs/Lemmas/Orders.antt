@@ -1,10 +1,10 @@
 -- Each order keeps its laws.
-use Rattle.std.proofs.Common.{◌≡◌, ◌<◌, ◌≤◌, false, refl, arith, ℕ}
+use Rattle.std.proofs.Common.{◌≡◌, ◌<◌, ◌≤◌, refl, arith, ℕ}
 use Rattle.std.proofs.lemmas.Bool.Decides.{nat_tests}
 use Rattle.rt_geo.specs.Boxes.{area}
-use Rattle.rt_geo.specs.Laws.{IsAdmissible, IsUnscored, extent_of}
+use Rattle.rt_geo.specs.Laws.{IsAdmissible, extent_of}
 use Rattle.rt_geo.specs.Lemmas.Distances.{near2-part}
-use Rattle.rt_geo.specs.Orders.{order_estimate, order_score, scores_nodes}
+use Rattle.rt_geo.specs.Orders.{order_estimate, order_score}
 use Rattle.rt_geo.specs.declared.geometry.Info.{Info}
 use Rattle.rt_geo.specs.declared.order.Order.{Order}
 use Rattle.rt_geo.specs.declared.order.Order.TheVariants.{ById, Near, Smallest}
@@ -29,8 +29,3 @@ order-admissible (Smallest rank) = record {
   exact = λ i well_formed entry. smallest-exact i entry;
   admissibility = λ i well_formed node b h. smallest-below i (area b.bounds) node;
 }
-
-pub order-unscored : (o : Order) → scores_nodes o ≡ false → IsUnscored (order_estimate o)
-order-unscored (ById rank) h = λ i node. refl
-order-unscored (Near rank) h = cc
-order-unscored (Smallest rank) h = λ i node. grind (arith, nat_tests)

@@ -1,10 +1,7 @@
 -- A geometry without the scores of its nodes keeps the laws that it keeps with them.
 use Rattle.std.proofs.Common.{arith}
 use Rattle.std.proofs.lemmas.Bool.Decides.{nat_tests}
-use Rattle.rt_geo.specs.Laws.{IsLawful, IsUnscored, Meaning, estimate_of, unscored_meaning}
-
-pub unscored-unscored : (meaning : Meaning) → IsUnscored (estimate_of (unscored_meaning meaning))
-unscored-unscored meaning i node = grind (arith, nat_tests)
+use Rattle.rt_geo.specs.Laws.{IsLawful, Meaning, unscored_meaning}
 
 pub unscored-lawful : (meaning : Meaning) → IsLawful meaning → IsLawful (unscored_meaning meaning)
 unscored-lawful meaning law = record {

@@ -1,4 +1,6 @@
-use Rattle.std.proofs.Common.{All, IsSome, ◌≡◌, ◌≤◌, ◌-◌, flat_map, length, map, take}
+use Rattle.std.proofs.Common.{All, IsSome, ◌≡◌, ◌≤◌, ◌+◌, ◌-◌, flat_map, length, map, take}
+use Rattle.rt_search.specs.Work.{CountsOn}
+use Rattle.rt_embed.specs.Costs.{opened_by_finds}
 use Rattle.rt_embed.specs.Findings.{Begins, ends_of, id_of, list_of, lists_of, score_of}
 use Rattle.rt_embed.specs.PlainQueries.{question_of}
 use Rattle.rt_embed.proofs.finding.find_each.Given as goal
@@ -8,6 +10,8 @@ abbrev pub invariant-loop-done : goal.invariant-loop-done
 invariant-loop-done l = record {
   bound : l.done ≤ length l.queries;
   capacity : l.frontier.capacity ≡ l.initial.frontier.capacity;
+  worked : CountsOn l.initial.frontier.opened
+      (opened_by_finds l.tree l.vertices (l.fn.skip + length l.initial.ids + 1) (take l.done l.queries)) l.frontier.opened;
   ids_len : length l.ids ≡ length l.initial.ids;
   scores_len : length l.scores ≡ length l.initial.scores;
   ends_len : length l.ends ≡ length l.initial.ends;

@@ -1,10 +1,27 @@
-use Rattle.std.proofs.Common.{◌∙◌, ap, sym}
-use Rattle.rt_geo.specs.{Orders.{order_score}, Regions.{region_accepts}}
-use Rattle.rt_filter.proofs.LayerLemmas.{answers-all, with_bits}
+use Rattle.std.proofs.Common.{length, subst}
+use Rattle.rt_search.specs.{Work.{CountsOn}}
+use Rattle.rt_filter.specs.Replies.{meaning_of}
+use Rattle.rt_embed.specs.{Findings.{answers_to}, Puts.{IsPut, wanted_from}}
+use Rattle.rt_embed.proofs.LimitLemmas.{answers_within, opened_within, put_within}
 use Rattle.rt_embed.proofs.finding.find_one.Goals as goal
 
-pub returns-then-bits-clause-put : goal.returns-then-bits-clause-put
-returns-then-bits-clause-put c =
+pub returns-clause-put : goal.returns-clause-put
+returns-clause-put c =
     let asked = c.args.question.now in
-    rw (answers-all (region_accepts asked.region) (order_score asked.order) c.args.tree.now.entries c.len.ensures.sound.table.layers
-    asked.layers (ap with_bits (sym c.bits.ensures ∙ c.if-bits.true)) asked.limit) c.put_in_region.ensures.put
+    let wanted = wanted_from c.args.from (length c.args.ids.now) in
+    let within = rw c.len.ensures.value at c.limit_within.ensures.within in
+    put_within (answers_to c.args.tree.now.entries asked) c.args.from c.put_on_layers.result.0 c.args.ids.now c.put_on_layers.new.ids
+    c.args.scores.now c.put_on_layers.new.scores c.requires.place
+    (subst (λ found. IsPut found c.args.from c.put_on_layers.result.0 c.args.ids.now c.put_on_layers.new.ids
+    c.args.scores.now c.put_on_layers.new.scores)
+    (answers_within c.args.tree.now.entries (meaning_of asked.region asked.layers asked.order) asked.limit c.limit_within.result wanted
+    within c.limit_within.ensures.least) c.put_on_layers.ensures.put)
+
+pub returns-clause-worked : goal.returns-clause-worked
+returns-clause-worked c =
+    let asked = c.args.question.now in
+    let wanted = wanted_from c.args.from (length c.args.ids.now) in
+    let within = rw c.len.ensures.value at c.limit_within.ensures.within in
+    subst (λ opened. CountsOn c.args.frontier.opened opened c.put_on_layers.result.1.opened)
+    (opened_within c.args.tree.now (meaning_of asked.region asked.layers asked.order) asked.limit c.limit_within.result wanted
+    within c.limit_within.ensures.least) c.put_on_layers.ensures.worked

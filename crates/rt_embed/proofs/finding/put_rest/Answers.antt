@@ -1,4 +1,4 @@
-use Rattle.std.proofs.Common.{◌≡◌, ◌∙◌, ◌++◌, ◌∷◌, ◌-◌, [], ap, map, rules, subst, sym, take}
+use Rattle.std.proofs.Common.{◌≡◌, ◌+◌, arith, ◌∙◌, ◌++◌, ◌∷◌, ◌-◌, [], ap, map, rules, subst, sym, take}
 use mir.{Syntax.{w64}, Val.{of_z, to_z}}
 use Rattle.rt_embed.specs.Findings.{Begins, id_of, score_of}
 use Rattle.rt_embed.proofs.ArrayLemmas.{begins_put, drop_next, map_next, put_len}
@@ -18,6 +18,11 @@ loop-id-preserved g c =
       ids_len = search rules;
       scores_len = search rules;
       capacity = search rules;
+      tree = search rules;
+      geometry = search rules;
+      limit = search rules;
+      opened_before = search rules;
+      given = search rules;
       to_come = drop_next list from end _ _ kept.behind next;
       all = search rules;
       ids_stand = λ before len begins.
@@ -29,3 +34,10 @@ loop-id-preserved g c =
           ∙ map_next score_of before list from end _ _ kept.behind next)
           (c.put_at.ensures.put _ (put_len score_of before list from end _ len kept.behind kept.all) (kept.scores_stand before len begins));
     }
+
+pub returns-then-end-ids-clause-cut : goal.returns-then-end-ids-clause-cut
+returns-then-end-ids-clause-cut g c = λ _.
+    let kept = c.loop-id.invariant in
+    let given : c.next.new.self.given ≡ c.args.search.given + (c.loop-id.end - c.args.from) + 1 =
+    omega (arith, c.in-Some.ensures.given, kept.given, kept.behind) in
+    rw (← given) (search rules)

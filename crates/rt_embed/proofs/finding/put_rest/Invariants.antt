@@ -11,6 +11,11 @@ invariant-loop-id g l = record {
   ids_len : length l.ids ≡ length l.initial.ids;
   scores_len : length l.scores ≡ length l.initial.scores;
   capacity : l.search.capacity ≡ l.initial.search.capacity;
+  tree : l.search.tree ≡ l.initial.search.tree;
+  geometry : l.search.geometry ≡ l.initial.search.geometry;
+  limit : l.search.limit ≡ l.initial.search.limit;
+  opened_before : l.search.opened_before ≡ l.initial.search.opened_before;
+  given : l.search.given + l.fn.from ≡ l.initial.search.given + l.end;
   to_come : l.search.to_come ≡ drop (l.end - l.fn.from) l.initial.search.to_come;
   all : l.end + length l.search.to_come ≡ l.fn.from + length l.initial.search.to_come;
   ids_stand : (before : List Answer) → length before ≡ l.fn.from → Begins l.initial.ids (map id_of before)

@@ -1,6 +1,6 @@
 use Rattle.std.proofs.Common.{◌∙◌, ◌+◌, ap, arith}
 use Rattle.rt_filter.specs.Stages.{loaded_tree}
-use Rattle.rt_filter.proofs.{BatchLemmas.{line_cut, line_judged, line_pushed}, PushLemmas.{as_failed}}
+use Rattle.rt_filter.proofs.{BatchLemmas.{line_cut, line_judged, line_pushed, line_worked}, PushLemmas.{as_failed}}
 use Rattle.rt_filter.proofs.batch.answer_text.Goals as goal
 
 pub returns-in_err-frontier-clause-pushed : goal.returns-in_err-frontier-clause-pushed
@@ -21,6 +21,8 @@ loop-rest-preserved g c =
           (line_pushed (loaded_tree c.args.tree.now) _ _ _ _ _ _ _ next c.loop-rest.invariant.pushed c.in_ok-frontier.ensures.pushed.0);
       bad = rw (c.answer_whole.ensures.lines, c.answer_whole.ensures.bad)
           (c.loop-rest.invariant.bad ∙ line_judged c.loop-rest.progress.bad _ _ _ next);
+      worked = rw c.answer_whole.ensures.lines
+          (line_worked (loaded_tree c.args.tree.now) _ _ _ _ _ _ next c.loop-rest.invariant.worked c.in_ok-frontier.ensures.worked);
       flushed = λ e.
           let same = c.answer_whole.ensures.untouched e in
           ap g.K.Sink.waits same.1 ∙ c.loop-rest.invariant.flushed same.0;

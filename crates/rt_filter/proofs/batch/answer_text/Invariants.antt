@@ -1,4 +1,5 @@
-use Rattle.std.proofs.Common.{◌≡◌, ◌+◌, ◌≤◌, ◌||◌, false, length, true}
+use Rattle.std.proofs.Common.{◌≡◌, ◌+◌, ◌%◌, ◌^◌, ◌≤◌, ◌||◌, false, length, true}
+use Rattle.rt_filter.specs.Works.{opened_by_lines}
 use Rattle.rt_filter.specs.{Lines.{numbered_lines}, Replies.{any_fault, output}, Stages.{lines_from, loaded_tree}}
 use Rattle.rt_filter.proofs.PushLemmas.{AllBut}
 use Rattle.rt_filter.proofs.batch.answer_text.Given as goal
@@ -13,6 +14,8 @@ invariant-loop-rest g l = record {
   pushed : AllBut (output (loaded_tree l.tree) (numbered_lines l.text true)) (g.K.Sink.written l.initial.sink)
       (g.K.Sink.written l.sink) (output (loaded_tree l.tree) (lines_from l.progress.lines l.rest true));
   bad : any_fault (numbered_lines l.text true) ≡ (l.progress.bad || any_fault (lines_from l.progress.lines l.rest true));
+  worked : (l.initial.frontier.opened + opened_by_lines (loaded_tree l.tree) (numbered_lines l.text true)) % 2 ^ 64
+      ≡ (l.frontier.opened + opened_by_lines (loaded_tree l.tree) (lines_from l.progress.lines l.rest true)) % 2 ^ 64;
   flushed : l.is_pushed ≡ false → g.K.Sink.waits l.sink ≡ g.K.Sink.waits l.initial.sink;
 }
 

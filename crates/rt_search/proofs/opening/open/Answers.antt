@@ -22,8 +22,8 @@ open_node-requires g c =
       asked = can.asked_low;
     }
 
-pub returns-then-SCORES_NODES-clause-state : goal.returns-then-SCORES_NODES-clause-state
-returns-then-SCORES_NODES-clause-state g c to_come out =
+pub returns-then-scores_nodes-clause-state : goal.returns-then-scores_nodes-clause-state
+returns-then-scores_nodes-clause-state g c to_come out =
     let law = g.met.G.Geometry.lawful c.args.counted.now.geometry in
     let joined = c.open_node.ensures.children in
     rw (c.open_node.ensures.asked, joined.wanted) ((go_on law c.args.tree.now (search rules) out).next _ joined.items)
@@ -34,7 +34,7 @@ pub walk_under-requires : goal.walk_under-requires
 walk_under-requires g c =
     let geometry = c.args.counted.now.geometry in
     let law = g.met.G.Geometry.lawful geometry in
-    let can = walk_on law c.args.tree.now (g.met.G.Geometry.no_scores geometry (search rules)) c.requires.state.1 in
+    let can = walk_on law c.args.tree.now (c.scores_nodes.ensures (search rules) geometry) c.requires.state.1 in
     rw c.verdict_on-parent.ensures (record {
       sound = can.tree;
       node = can.node;
@@ -47,7 +47,7 @@ pub returns : goal.returns
 returns g c =
     let geometry = c.args.counted.now.geometry in
     let law = g.met.G.Geometry.lawful geometry in
-    let unscored = g.met.G.Geometry.no_scores geometry (search rules) in
+    let unscored = c.scores_nodes.ensures (search rules) geometry in
     let e = rw c.verdict_on-parent.ensures at c.walk_under.ensures in
     let joined = entries_join c.args.queue.now c.walk_under.new.visitor _ e.taken in
     let some = (walk_on law c.args.tree.now unscored c.requires.state.1).some in

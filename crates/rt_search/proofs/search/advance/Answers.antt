@@ -1,5 +1,4 @@
 use Rattle.std.proofs.Common.{◌≡◌, None, arith, false, rules}
-use Rattle.rt_search.specs.Progress.{gathers}
 use Rattle.rt_search.proofs.{Gathering.{hit}, Giving.{end, give}}
 use Rattle.rt_search.proofs.search.advance.Goals as goal
 
@@ -16,7 +15,6 @@ gather-requires g c =
 
 pub returns-then-gathers-clause-step : goal.returns-then-gathers-clause-step
 returns-then-gathers-clause-step g c so_far more going =
-    let is = c.gathers.ensures in
     let gathering = going.gathering (search rules) in
     let room = gathering.room in
     let same = going.same_room in
@@ -24,7 +22,8 @@ returns-then-gathers-clause-step g c so_far more going =
     let t = c.take.ensures in
     hit (record {
       gathered = search rules;
-      unscored = g.met.G.Geometry.no_scores c.args.counted.now.geometry (search rules);
+      unscored = gathering.unscored;
+      some = gathering.some;
       room = grind arith;
       same = grind arith;
       none = gathering.none_waits;
@@ -42,7 +41,7 @@ pull-requires g c =
 pub returns-in_err-answer-clause-step : goal.returns-in_err-answer-clause-step
 returns-in_err-answer-clause-step g c so_far more going =
     let same = going.same_room in
-    let queued : gathers g.G.Geometry.SCORES_NODES c.args.limit ≡ false = search rules in
+    let queued : c.args.gathers ≡ false = search rules in
     let giving = going.giving queued in
     let e = c.pull.ensures in
     let none : c.from_residual.result ≡ None = search rules in

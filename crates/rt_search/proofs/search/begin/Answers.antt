@@ -1,10 +1,9 @@
-use Rattle.std.proofs.Common.{◌≤◌, arith, length, refl}
+use Rattle.std.proofs.Common.{◌≤◌, arith, length, refl, rules}
 use Rattle.rt_search.proofs.Starting.{started}
 use Rattle.rt_search.proofs.search.begin.Goals as goal
 
 pub returns-then-gathers-clause-going : goal.returns-then-gathers-clause-going
 returns-then-gathers-clause-going g c geometry =
-    let is = c.gathers.ensures in
     let same = c.requires.same_room in
     let room = c.requires.capacity in
     let cleared = c.clear.ensures in
@@ -13,6 +12,8 @@ returns-then-gathers-clause-going g c geometry =
       same_room = grind arith;
       giving = λ h. absurd (grind arith);
       gathering = λ h. record {
+        unscored = c.gathers.ensures.unscored (search rules) geometry;
+        some = c.gathers.ensures.some (search rules);
         room = grind arith;
         none_waits = cleared.items;
         before = λ h. record { none_given = refl; none_opened = refl; none_asked = refl; none_found = hits.items };
@@ -22,7 +23,6 @@ returns-then-gathers-clause-going g c geometry =
 
 pub returns-clause-going : goal.returns-clause-going
 returns-clause-going g c geometry =
-    let is = c.gathers.ensures in
     let put = c.put_root.ensures in
     let cleared = c.clear.ensures in
     let same = c.requires.same_room in

@@ -52,7 +52,7 @@ returns-then-eq-clause-answer g c = grind (arith, common_steps)
 
 pub returns-then-eq-clause-worked_in_all : goal.returns-then-eq-clause-worked_in_all
 returns-then-eq-clause-worked_in_all g c =
-    rw (← c.self.view_is) (stopped c.self.invariant (g.met.G.Geometry.no_scores c.self.inside.counted.geometry) (search rules))
+    rw (← c.self.view_is) (stopped c.self.invariant (search rules))
 
 pub returns-then-eq-clause-none : goal.returns-then-eq-clause-none
 returns-then-eq-clause-none g c = grind (arith, common_steps)
