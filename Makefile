@@ -31,7 +31,7 @@ PKG_CONFIG_FILE = sed 's|@PREFIX@|$(PREFIX)|; s|@LIBDIR@|$(LIBDIR)|; s|@VERSION@
 # The extension of the Python package, with the library in it. It wants python3-dev and python3-setuptools of Debian.
 EXTENSION := python/rtfilter/_engine.abi3.so
 BUILD_EXTENSION = cd python && RTFILTER_ARCHIVE=$(abspath $(LIBRTFILTER)) RTFILTER_INCLUDE=$(abspath include) \
-  /usr/bin/python3 -B setup.py --quiet build_ext --inplace --build-temp $(abspath $(OUT))/python/temporary --build-lib $(abspath $(OUT))/python/lib
+  /usr/bin/python3 -B -W ignore setup.py --quiet build_ext --inplace --build-temp $(abspath $(OUT))/python/temporary --build-lib $(abspath $(OUT))/python/lib
 
 # What a service and a pool load before the C library, where there is a C compiler.
 PREFORK := $(if $(shell command -v $(CC)),build/rtfilter-prefork.so)
@@ -74,7 +74,7 @@ $(OUT)/librtfilter.so: $(OUT)/librtfilter.so.0
 # The Python package, to be used from this folder: PYTHONPATH=python.
 python: $(EXTENSION)
 
-$(EXTENSION): python/engine/_engine.c python/setup.py $(LIBRTFILTER)
+$(EXTENSION): python/engine/_engine.c python/setup.py include/rtfilter.h $(LIBRTFILTER)
 	@$(BUILD_EXTENSION)
 
 # In one step, since some may build it at once.

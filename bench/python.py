@@ -154,7 +154,7 @@ def find_each_c(boxes):
     assert library.rtfilter_open_arrays(ctypes.byref(session), ctypes.c_size_t(len(boxes)), *pointers, None, None, None) == 0
     windows = windows_of(WINDOWS, len(boxes))
     asked = arrays.Queries(Window, [windows[:, at] for at in (0, 2, 1, 3)], None, None, None)
-    queries = numpy.concatenate([numpy.frombuffer(part.tobytes(), "V72") for _, part in asked.parts()])
+    queries = numpy.concatenate([numpy.frombuffer(part.tobytes(), f"V{arrays.QUERY.itemsize}") for _, part in asked.parts()])
     ids, ends = numpy.empty(40 * WINDOWS, "i8"), numpy.empty(WINDOWS, "u8")
     answers = Answers(ids.ctypes.data, None, len(ids), ends.ctypes.data, 0, 0)
     call = Call(queries.ctypes.data, WINDOWS, None, 0)
@@ -313,13 +313,15 @@ def resident():
 
 
 def memory(_):
+    import pandas
+
     from rtfilter import Rtfilter, Window
 
     boxes = boxes_of(MANY)
     names = zip(("min_x", "max_x", "min_y", "max_y"), (0, 2, 1, 3))
-    given = numpy.arange(MANY), *(numpy.ascontiguousarray(boxes[:, at], "i4") for _, at in names), None
+    frame = pandas.DataFrame({"id": numpy.arange(MANY), **{name: numpy.ascontiguousarray(boxes[:, at], "i4") for name, at in names}})
     before = resident()
-    table = Rtfilter._open_arrays(given, 16, 1 << 24)
+    table = Rtfilter(frame)
     alone = resident() - before
     both = threading.Barrier(9)
 

@@ -1,11 +1,13 @@
 """A plugin of pytest: a test that takes too long ends the run, with the stacks of its threads, and SIGINT isn't ignored."""
 
 import faulthandler
+import os
 import signal
 
 import pytest
 
 TOO_LONG = 300  # seconds of one test: something waits for ever
+ERRORS = open(os.dup(2), "w", encoding="utf-8")  # standard error, before pytest captures it
 
 
 def pytest_configure():
@@ -15,6 +17,6 @@ def pytest_configure():
 
 @pytest.hookimpl(hookwrapper=True)
 def pytest_runtest_protocol():
-    faulthandler.dump_traceback_later(TOO_LONG, exit=True)
+    faulthandler.dump_traceback_later(TOO_LONG, exit=True, file=ERRORS)
     yield
     faulthandler.cancel_dump_traceback_later()

@@ -48,13 +48,3 @@ def square_of(piece: Piece, x: int, y: int) -> tuple[int, int]:
         return past_x * past_x + past_y * past_y, 1
     side = along_x * over_y - along_y * over_x
     return side * side, length2
-
-
-def piece_meets(piece: Piece, window: Sides) -> bool:
-    """Whether a piece and a window share a point: no line parallel to a side of the window, or to the piece, parts them."""
-    x1, x2, y1, y2 = window
-    min_x, max_x, min_y, max_y = sides_of(piece)
-    if max_x < x1 or x2 < min_x or max_y < y1 or y2 < min_y:
-        return False
-    corners = [side_of(piece, x, y) for x in (x1, x2) for y in (y1, y2)]
-    return min(corners) <= 0 <= max(corners)

@@ -17,6 +17,7 @@ enum {
     MANY = 1 << 20,       /* answers, and bytes of a reply, that it keeps a buffer for */
     STEP = 64,            /* queries of one call of the library, at most */
     SLICE_NS = 10000000,  /* after so many nanoseconds a signal is looked for */
+    AHEAD = 12,           /* answers between the one that is filtered and the one whose box is fetched */
     MOST_VERTICES = 16,
 };
 
@@ -451,15 +452,17 @@ static bool put_rest(request *it, PyObject *order, PyObject *first, PyObject *on
            (first == Py_None || put_limit(it, first));
 }
 
-/* The arguments of a call, by place or name: region, order, first, on, scores. */
+/* The arguments of a find: region, order and first by place or name, on and scores by name. */
 enum { REGION, ORDER, FIRST, ON, SCORES, ARGUMENTS, BY_PLACE = ON };
 static const char *const argument_names[ARGUMENTS] = {"region", "order", "first", "on", "scores"};
 
-static bool put_arguments(PyObject **given, PyObject *const *args, Py_ssize_t count, PyObject *names)
+/* Arguments by place, as many as are allowed, and those by their known names. */
+static bool put_arguments(PyObject **given, const char *const *known, int most, int by_place, PyObject *const *args,
+                          Py_ssize_t count, PyObject *names)
 {
     const Py_ssize_t named = names ? PyTuple_Size(names) : 0;
-    if (count > BY_PLACE) {
-        PyErr_Format(PyExc_TypeError, "%zd arguments by place, of at most %d", count, BY_PLACE);
+    if (count > by_place) {
+        PyErr_Format(PyExc_TypeError, "%zd arguments by place, of at most %d", count, by_place);
         return false;
     }
     for (Py_ssize_t at = 0; at < count; at++)
@@ -467,17 +470,15 @@ static bool put_arguments(PyObject **given, PyObject *const *args, Py_ssize_t co
     for (Py_ssize_t at = 0; at < named; at++) {
         PyObject *name = PyTuple_GetItem(names, at);
         int place = 0;
-        while (place < ARGUMENTS && PyUnicode_CompareWithASCIIString(name, argument_names[place]))
+        while (place < most && PyUnicode_CompareWithASCIIString(name, known[place]))
             place++;
-        if (place == ARGUMENTS || (place < count && place < BY_PLACE)) {
-            PyErr_Format(PyExc_TypeError, place == ARGUMENTS ? "no argument is called %R" : "argument %R twice", name);
+        if (place == most || place < count) {
+            PyErr_Format(PyExc_TypeError, place == most ? "no argument is called %R" : "argument %R twice", name);
             return false;
         }
         given[place] = args[count + at];
     }
-    if (!given[REGION])
-        PyErr_SetString(PyExc_TypeError, "no region");
-    return given[REGION];
+    return true;
 }
 
 static bool request_of(request *it, PyObject *const *args, Py_ssize_t count, PyObject *names)
@@ -485,8 +486,12 @@ static bool request_of(request *it, PyObject *const *args, Py_ssize_t count, PyO
     PyObject *given[ARGUMENTS] = {NULL, Py_None, Py_None, Py_None, Py_False};
     it->query = rtfilter_all();
     it->region = NULL;
-    if (!put_arguments(given, args, count, names))
+    if (!put_arguments(given, argument_names, ARGUMENTS, BY_PLACE, args, count, names))
         return false;
+    if (!given[REGION]) {
+        PyErr_SetString(PyExc_TypeError, "no region");
+        return false;
+    }
     const int has_scores = PyObject_IsTrue(given[SCORES]);
     it->has_scores = has_scores > 0;
     return has_scores >= 0 && put_region(it, given[REGION]) && put_rest(it, given[ORDER], given[FIRST], given[ON]);
@@ -565,17 +570,19 @@ static PyObject *table_find(Table *self, PyObject *const *args, Py_ssize_t count
     return request_of(&it, args, count, names) ? found(self, &it) : NULL;
 }
 
-static PyObject *table_nearest(Table *self, PyObject *args, PyObject *named)
+static PyObject *table_nearest(Table *self, PyObject *const *args, Py_ssize_t count, PyObject *names)
 {
-    static char *names[] = {"k", "x", "y", NULL};
-    PyObject *k, *x, *y;
+    static const char *const known[] = {"k", "x", "y"};
+    PyObject *given[3] = {NULL};
     request it = {.query = rtfilter_nearest(0, 0, 0), .has_scores = true};
-    if (!PyArg_ParseTupleAndKeywords(args, named, "OOO:nearest", names, &k, &x, &y))
+    if (!put_arguments(given, known, 3, 3, args, count, names))
         return NULL;
-    return put_limit(&it, k) && put_number(&it, x, NULL, &it.query.near_x, false) &&
-                   put_number(&it, y, NULL, &it.query.near_y, false)
-               ? found(self, &it)
-               : NULL;
+    if (!given[0] || !given[1] || !given[2])
+        return PyErr_Format(PyExc_TypeError, "nearest takes k, x and y");
+    if (!put_limit(&it, given[0]) || !put_number(&it, given[1], NULL, &it.query.near_x, false) ||
+        !put_number(&it, given[2], NULL, &it.query.near_y, false))
+        return NULL;
+    return found(self, &it);
 }
 
 typedef int measure(rtfilter_session *, const rtfilter_queries *, uint64_t *, size_t *);
@@ -686,11 +693,14 @@ static void keep(finding *it, const rtfilter_answers *part)
     size_t at = 0, kept = it->kept;
     for (size_t query = 0; query <= part->done; query++) {
         const size_t end = query < part->done ? part->ends[query] : part->found;
-        for (; at < end; at++)
+        for (; at < end; at++) {
+            if (it->windows && at + AHEAD < part->found)
+                __builtin_prefetch(it->boxes + 4 * ids[at + AHEAD]);
             if (is_kept(it, ids[at])) {
                 it->places[kept] = it->place;
                 it->ids[kept++] = ids[at];
             }
+        }
         it->place += query < part->done;
     }
     it->kept = kept;
@@ -1031,7 +1041,7 @@ static PyMethodDef table_methods[] = {
      "The ids of the boxes that a region accepts, in order, or with `scores` pairs (id, score).\n\n"
      "`order` is Near or Smallest; without one, answers come by id, and for a circle by distance. `first` is the most answers.\n"
      "`on` is a layer, or an iterable of layers."},
-    {"nearest", CALL(table_nearest), METH_VARARGS | METH_KEYWORDS,
+    {"nearest", CALL(table_nearest), FAST,
      "nearest($self, k, x, y)\n--\n\nThe k boxes nearest to a point: pairs of an id and the square of the distance."},
     {"count", CALL(table_count), FAST, "count($self, region, *, on=None)\n--\n\nHow many boxes a region accepts."},
     {"cost_of_find", CALL(cost_of_find), FAST,

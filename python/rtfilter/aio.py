@@ -10,7 +10,7 @@ import asyncio
 import os
 from collections.abc import Iterable
 from types import TracebackType
-from typing import Literal, Self, overload
+from typing import Any, Self
 
 from .client import PIECE, Address, name_of
 from .errors import Disconnected, TimedOut
@@ -46,26 +46,6 @@ class Client:
         """How many boxes there are."""
         return await self.count(All())
 
-    @overload
-    async def find(
-        self,
-        region: Region,
-        order: Order | None = None,
-        first: int | None = None,
-        *,
-        on: Layers | None = None,
-        scores: Literal[False] = False,
-    ) -> list[int]: ...
-    @overload
-    async def find(
-        self,
-        region: Region,
-        order: Order | None = None,
-        first: int | None = None,
-        *,
-        on: Layers | None = None,
-        scores: Literal[True],
-    ) -> list[tuple[int, int]]: ...
     async def find(
         self,
         region: Region,
@@ -74,7 +54,7 @@ class Client:
         *,
         on: Layers | None = None,
         scores: bool = False,
-    ) -> list[int] | list[tuple[int, int]]:
+    ) -> list[Any]:
         """The ids of the boxes that a region accepts, in order, or with `scores` pairs (id, score)."""
         answers = await self._single(find_line(region, order, first, on))
         return [*zip(answers.ids, answers.scores)] if scores else answers.ids

@@ -143,8 +143,9 @@ class Nearest(Queries):
 
 
 def numbers_of(buffer: bytearray, format: str, count: int) -> NDArray[Any]:
-    """The first numbers in a buffer."""
-    return numpy.frombuffer(buffer, format, count)
+    """The first numbers in a buffer, whose rest is freed."""
+    del buffer[count * numpy.dtype(format).itemsize :]
+    return numpy.frombuffer(buffer, format)
 
 
 def scores_of(buffer: bytearray, count: int) -> NDArray[Any]:

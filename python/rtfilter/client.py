@@ -7,7 +7,7 @@ import threading
 import time
 from collections.abc import Iterable
 from types import TracebackType
-from typing import Literal, Self, Union, overload
+from typing import Any, Self, Union
 
 from .errors import Disconnected, TimedOut
 from .regions import All, Layers, Order, Region, count_line, find_line, nearest_line
@@ -120,26 +120,6 @@ class Client:
     def __bool__(self) -> bool:
         return True
 
-    @overload
-    def find(
-        self,
-        region: Region,
-        order: Order | None = None,
-        first: int | None = None,
-        *,
-        on: Layers | None = None,
-        scores: Literal[False] = False,
-    ) -> list[int]: ...
-    @overload
-    def find(
-        self,
-        region: Region,
-        order: Order | None = None,
-        first: int | None = None,
-        *,
-        on: Layers | None = None,
-        scores: Literal[True],
-    ) -> list[tuple[int, int]]: ...
     def find(
         self,
         region: Region,
@@ -148,7 +128,7 @@ class Client:
         *,
         on: Layers | None = None,
         scores: bool = False,
-    ) -> list[int] | list[tuple[int, int]]:
+    ) -> list[Any]:
         """The ids of the boxes that a region accepts, in order, or with `scores` pairs (id, score)."""
         answers = self._single(find_line(region, order, first, on))
         return [*zip(answers.ids, answers.scores)] if scores else answers.ids

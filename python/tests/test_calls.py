@@ -41,6 +41,8 @@ def test_scores_of_65_bits() -> None:
         places, ids, scores = table.nearest_each([(far, far), (0, 0)], 2)
         assert scores.dtype == object and scores.tolist()[1] == 2 * (2**32 - 1) ** 2 and ids.tolist() == [2, 1, 2, 1]
         assert table.nearest_each([(0, 0)], 2)[2].dtype == numpy.uint64
+    with Rtfilter([(1, -(2**31), -(2**31), 0, 0)]) as table:  # 2^64 and a little
+        assert table.nearest(1, far, 92682) == [(1, 2**64 + 18533)]
 
 
 def test_lines(boxes: Rtfilter) -> None:
@@ -94,6 +96,9 @@ def test_invalid_queries(boxes: Rtfilter, region: Any, code: str, text: str) -> 
         (lambda it: it.find(All(), first=2**64), QueryError, "Q6 out of range"),
         (lambda it: it.nearest(1.0, 0, 0), TypeError, "1.0 isn't a whole number"),
         (lambda it: it.nearest(1, 2**31, 0), QueryError, "Q6 out of range"),
+        (lambda it: it.nearest(1, 2), TypeError, "nearest takes k, x and y"),
+        (lambda it: it.nearest(1, 2, 3, y=4), TypeError, "argument 'y' twice"),
+        (lambda it: it.nearest(1, 2, z=3), TypeError, "no argument is called 'z'"),
         (lambda it: it.find(Near(1, 1)), TypeError, "Near(x=1, y=1) is no region"),
         (lambda it: it.find((0, 1, 0, 1)), TypeError, "(0, 1, 0, 1) is no region"),
         (lambda it: it.find(All(), All()), TypeError, "All() is no order"),

@@ -24,3 +24,16 @@ def test_examples(data: Path) -> None:
         shown: list[str] = []
         failed, _ = doctest.DocTestRunner().run(session, out=shown.append)
     assert failed == 0, "".join(shown)
+
+
+@pytest.mark.filterwarnings("ignore")
+def test_readme(capsys: pytest.CaptureFixture[str]) -> None:
+    """A newcomer loads a frame with decimals, asks, joins and gets a frame, in ten lines."""
+    pytest.importorskip("geopandas")
+    (code,) = (ROOT / "README.md").read_text(encoding="utf-8").split("```python\n")[1:]
+    code = code.split("```")[0]
+    assert code.count("\n") <= 10
+    with contextlib.chdir(ROOT), warnings.catch_warnings():
+        warnings.simplefilter("ignore")
+        exec(compile(code, "README.md", "exec"), {})
+    assert "park" in (shown := capsys.readouterr().out) and "harbour" in shown
