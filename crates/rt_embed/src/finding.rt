@@ -258,7 +258,8 @@ fn put_in_shape<S: Shape + Drop>(
     ensures put { let meaning = scanned (S.accepts shape) (order_score cut.order) in
         IsPut (answers tree.now.entries meaning cut.limit) cut.from result.0
         ids.old ids.new scores.old scores.new }
-    ensures worked { let searched = searched_in_shape (S.accepts shape) (S.state shape) cut.order cut.limit in
+    ensures worked { let searched =
+        searched_in_shape (S.accepts shape) (S.state shape) cut.order cut.limit in
         CountsOn frontier.opened (opened_by_search searched tree.now cut.limit) result.1.opened }
     ensures capacity { result.1.capacity ≡ frontier.capacity }
 {

@@ -132,7 +132,8 @@ fn count_in_region(tree: &Tree, frontier: Frontier, region: &Region) -> (u64, Fr
     requires capacity { length tree.now.entries ≤ frontier.capacity }
     ensures accepted { let meaning = scanned (region_accepts region.now) (order_score by_id) in
         result.0 ≡ length (accepted tree.now.entries meaning) }
-    ensures worked { let meaning = counted_in_shape (region_accepts region.now) (region_state region.now) in
+    ensures worked { let meaning =
+        counted_in_shape (region_accepts region.now) (region_state region.now) in
         CountsOn frontier.opened (opened_by_count meaning tree.now) result.1.opened }
     ensures capacity { result.1.capacity ≡ frontier.capacity }
 {

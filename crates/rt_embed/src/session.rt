@@ -83,7 +83,8 @@ impl Session {
             HasBoxes settings.now (B.given boxes.now) session.tree) }
         ensures reply { IfOk result (λ session. session.reply ≡ []) }
         ensures ready { IfOk result (λ session. IsSome session.opened) }
-        ensures fault { IfErr result (λ fault. StopsAtBoxes settings.now (B.given boxes.now) fault) }
+        ensures fault { IfErr result (λ fault.
+            StopsAtBoxes settings.now (B.given boxes.now) fault) }
     {
         let table = table_of(alloc, settings.max_entries(), boxes)?;
         let tree = Tree::pack(alloc, table, settings.fanout())?;

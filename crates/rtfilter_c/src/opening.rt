@@ -66,14 +66,18 @@ pub extern "C" fn rtfilter_engine_open_arrays(
         (arrays ids.now min_x.now max_x.now min_y.now max_y.now layers.now) }
     ensures opened { let choices : Choices =
         record { header = false; fanout = fanout; max_entries = max_entries } in
-        let given = in_columns (arrays ids.now min_x.now max_x.now min_y.now max_y.now layers.now) in result ≡ OK → HoldsBoxes choices given out.new.held }
+        let given =
+        in_columns (arrays ids.now min_x.now max_x.now min_y.now max_y.now layers.now) in
+        result ≡ OK → HoldsBoxes choices given out.new.held }
     ensures closed { OK < result → out.new.held ≡ None }
     ensures setting { let choices : Choices =
         record { header = false; fanout = fanout; max_entries = max_entries } in
         (result ≡ BAD_SETTING) ↔ (AreAllowed choices → ⊥) }
     ensures fault { let choices : Choices =
         record { header = false; fanout = fanout; max_entries = max_entries } in
-        let given = in_columns (arrays ids.now min_x.now max_x.now min_y.now max_y.now layers.now) in result ≡ BAD_TABLE → ReportsBoxesFault choices given fault.new }
+        let given =
+        in_columns (arrays ids.now min_x.now max_x.now min_y.now max_y.now layers.now) in
+        result ≡ BAD_TABLE → ReportsBoxesFault choices given fault.new }
     ensures no_fault { result ≢ BAD_TABLE → fault.new ≡ fault.old }
     ensures codes { (result ≡ OK) ⊎ (result ≡ BAD_SETTING)
         ⊎ (result ≡ BAD_TABLE) ⊎ (result ≡ NO_MEMORY) }
@@ -102,14 +106,16 @@ pub extern "C" fn rtfilter_engine_open_boxes(
     requires closed { out.old.held ≡ None }
     ensures opened { let choices : Choices =
         record { header = false; fanout = fanout; max_entries = max_entries } in
-        let given = in_list boxes.now in result ≡ OK → HoldsBoxes choices given out.new.held }
+        let given = in_list boxes.now in
+        result ≡ OK → HoldsBoxes choices given out.new.held }
     ensures closed { OK < result → out.new.held ≡ None }
     ensures setting { let choices : Choices =
         record { header = false; fanout = fanout; max_entries = max_entries } in
         (result ≡ BAD_SETTING) ↔ (AreAllowed choices → ⊥) }
     ensures fault { let choices : Choices =
         record { header = false; fanout = fanout; max_entries = max_entries } in
-        let given = in_list boxes.now in result ≡ BAD_TABLE → ReportsBoxesFault choices given fault.new }
+        let given = in_list boxes.now in
+        result ≡ BAD_TABLE → ReportsBoxesFault choices given fault.new }
     ensures no_fault { result ≢ BAD_TABLE → fault.new ≡ fault.old }
     ensures codes { (result ≡ OK) ⊎ (result ≡ BAD_SETTING)
         ⊎ (result ≡ BAD_TABLE) ⊎ (result ≡ NO_MEMORY) }
@@ -134,14 +140,16 @@ pub extern "C" fn rtfilter_engine_open_rows(
     requires fit { AreRows (row_parts rows.now ids.now layers.now) }
     ensures opened { let choices : Choices =
         record { header = false; fanout = fanout; max_entries = max_entries } in
-        let given = in_rows (row_parts rows.now ids.now layers.now) in result ≡ OK → HoldsBoxes choices given out.new.held }
+        let given = in_rows (row_parts rows.now ids.now layers.now) in
+        result ≡ OK → HoldsBoxes choices given out.new.held }
     ensures closed { OK < result → out.new.held ≡ None }
     ensures setting { let choices : Choices =
         record { header = false; fanout = fanout; max_entries = max_entries } in
         (result ≡ BAD_SETTING) ↔ (AreAllowed choices → ⊥) }
     ensures fault { let choices : Choices =
         record { header = false; fanout = fanout; max_entries = max_entries } in
-        let given = in_rows (row_parts rows.now ids.now layers.now) in result ≡ BAD_TABLE → ReportsBoxesFault choices given fault.new }
+        let given = in_rows (row_parts rows.now ids.now layers.now) in
+        result ≡ BAD_TABLE → ReportsBoxesFault choices given fault.new }
     ensures no_fault { result ≢ BAD_TABLE → fault.new ≡ fault.old }
     ensures codes { (result ≡ OK) ⊎ (result ≡ BAD_SETTING)
         ⊎ (result ≡ BAD_TABLE) ⊎ (result ≡ NO_MEMORY) }
@@ -163,14 +171,16 @@ fn open_boxes<B: Boxes>(
     requires fit { B.fit boxes.now }
     ensures opened { let choices : Choices =
         record { header = false; fanout = fanout; max_entries = max_entries } in
-        let given = B.given boxes.now in result ≡ OK → HoldsBoxes choices given out.new.held }
+        let given = B.given boxes.now in
+        result ≡ OK → HoldsBoxes choices given out.new.held }
     ensures closed { OK < result → out.new.held ≡ None }
     ensures setting { let choices : Choices =
         record { header = false; fanout = fanout; max_entries = max_entries } in
         (result ≡ BAD_SETTING) ↔ (AreAllowed choices → ⊥) }
     ensures fault { let choices : Choices =
         record { header = false; fanout = fanout; max_entries = max_entries } in
-        let given = B.given boxes.now in result ≡ BAD_TABLE → ReportsBoxesFault choices given fault.new }
+        let given = B.given boxes.now in
+        result ≡ BAD_TABLE → ReportsBoxesFault choices given fault.new }
     ensures no_fault { result ≢ BAD_TABLE → fault.new ≡ fault.old }
     ensures codes { (result ≡ OK) ⊎ (result ≡ BAD_SETTING)
         ⊎ (result ≡ BAD_TABLE) ⊎ (result ≡ NO_MEMORY) }
