@@ -86,6 +86,11 @@ func answer(t *testing.T, session *Session) {
 func TestAnswers(t *testing.T) {
 	session := opened(t, table, Settings{})
 	answer(t, session)
+	first, err := session.Find(All())
+	expect(t, err, nil)
+	_, err = session.Find(Window(20, 30, 0, 10))
+	expect(t, err, nil)
+	expect(t, first, []int64{1, 2, 3, 4, 5})
 	info, err := session.Info()
 	expect(t, err, nil)
 	sizes := [25]uint32{5, 1}
@@ -227,7 +232,8 @@ func kilobytes(t *testing.T) int {
 	return 4 * resident
 }
 
-// A session is freed by Close, and where that is forgotten once nothing refers to it.
+// A session is freed by Close, and where that is forgotten once nothing refers to it. Twenty tables that are freed take less
+// memory than ten that are there: the C library keeps some for later.
 func TestFreed(t *testing.T) {
 	n := 100_000
 	ids, sides := make([]int64, n), make([]int32, n)
@@ -240,20 +246,23 @@ func TestFreed(t *testing.T) {
 		return session
 	}
 	expect(t, open().Close(), nil)
-	before := kilobytes(t)
+	before, kept := kilobytes(t), open()
+	most := before + 10*(kilobytes(t)-before)
+	expect(t, kept.Close(), nil)
 	for i := 0; i < 20; i++ {
 		expect(t, open().Close(), nil)
 	}
-	expect(t, kilobytes(t) < before+10_000, true)
+	expect(t, kilobytes(t) < most, true)
 	for i := 0; i < 20; i++ {
 		open()
 		runtime.GC()
+		time.Sleep(10 * time.Millisecond)
 	}
-	for until := time.Now().Add(10 * time.Second); kilobytes(t) > before+20_000 && time.Now().Before(until); {
+	for until := time.Now().Add(20 * time.Second); kilobytes(t) > most && time.Now().Before(until); {
 		runtime.GC()
 		time.Sleep(10 * time.Millisecond)
 	}
-	expect(t, kilobytes(t) < before+20_000, true)
+	expect(t, kilobytes(t) < most, true)
 }
 
 func TestFailures(t *testing.T) {
@@ -272,7 +281,7 @@ func TestFailures(t *testing.T) {
 	expect(t, errors.As(err, &it) && it.Code == BadQuery && it.Query == 1, true)
 	expect(t, err.Error(), "rtfilter: invalid query 1: minimum above maximum")
 	many, _ := points(t, 1000)
-	queries := []Query{All(), All(), Window(1, 0, 0, 0)}
+	queries := []Query{Window(0, 9, 0, 9), All(), Window(1, 0, 0, 0)}
 	_, err = many.FindEach(queries, nil)
 	expect(t, errors.As(err, &it) && it.Code == BadQuery && it.Query == 2, true)
 	_, err = many.CountEach(queries, nil)

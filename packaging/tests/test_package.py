@@ -210,7 +210,7 @@ class Packages(unittest.TestCase):
         program, printed = self.page("bindings/rust/README.md", "rust")
         with tempfile.TemporaryDirectory() as system:
             words = {**self.installed_library(system), "CARGO_TARGET_DIR": f"{system}/target"}
-            crate = Path(system, "over_package")
+            crate = Path(system, "page")
             run("cargo", "new", "--quiet", "--vcs", "none", "--bin", crate, env=words)
             with open(crate / "Cargo.toml", "a") as manifest:
                 manifest.write(f'rtfilter = {{ path = "{system}/usr/share/librtfilter/rust" }}\n')

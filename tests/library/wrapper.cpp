@@ -53,11 +53,12 @@ int main(int, char **words)
     third.layers = 1 << 3;
     EXPECT((session.find(third) == std::vector<std::int64_t>{9}));
     const std::int64_t ids[] = {7, 9};
-    const std::int32_t low[] = {0, 5}, high[] = {1, 6};
+    const std::int32_t min_x[] = {0, 5}, max_x[] = {1, 6}, min_y[] = {10, 15}, max_y[] = {11, 16};
     const std::uint8_t layers[] = {0, 3};
-    session = rtfilter::Session::of_columns({2, ids, low, high, low, high, layers});
+    session = rtfilter::Session::of_columns({2, ids, min_x, max_x, min_y, max_y, layers});
     EXPECT((session.find(third) == std::vector<std::int64_t>{9}));
-    session = rtfilter::Session::of_columns({2, ids, low, high, low, high});
+    EXPECT((session.find(rtfilter_inside(5, 6, 15, 16)) == std::vector<std::int64_t>{9}));
+    session = rtfilter::Session::of_columns({2, ids, min_x, max_x, min_y, max_y});
     EXPECT(session.find(third).empty() && session.info().boxes == 2);
 
     /* Settings, and costs of finds and of counts, which differ. */

@@ -146,7 +146,7 @@ fn failures() {
     let ids: Vec<i64> = (0..1000).collect();
     let sides = vec![0; 1000];
     let boxes = Columns { ids: &ids, min_x: &sides, max_x: &sides, min_y: &sides, max_y: &sides, layers: None };
-    let queries = [Query::ALL, Query::ALL, Query::window(1, 0, 0, 0)];
+    let queries = [Query::ALL.first(9), Query::ALL, Query::window(1, 0, 0, 0)];
     let mut many = Session::of_columns(&boxes, &settings).unwrap();
     assert!(matches!(many.find_each(&queries, &[]), Err(Error::BadQuery { index: 2, .. })));
     assert!(matches!(many.count_each(&queries, &[]), Err(Error::BadQuery { index: 2, .. })));

@@ -69,7 +69,7 @@ pub(crate) fn find_each(
     };
     let mut done: usize = 0;
     while done < queries.len() {
-        let Some(question) = queries[done].question(vertices).ok() else {
+        let Ok(question) = queries[done].question(vertices) else {
             return (position.stopped(done, Stop::BadQuery), frontier);
         };
         let (next, left) = find_one(tree, frontier, &question, position, ids, scores);

@@ -38,7 +38,7 @@ pub(crate) fn measure_each(
     let mut frontier = frontier;
     let mut done: usize = 0;
     while done < most {
-        let Some(question) = queries[done].question(vertices).ok() else {
+        let Ok(question) = queries[done].question(vertices) else {
             return (done, frontier);
         };
         let (found, left) = measure_one(tree, frontier, measure, &question);

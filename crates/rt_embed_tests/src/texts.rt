@@ -122,3 +122,20 @@ fn a_faulty_table_is_refused(rt: HostRuntime) {
     let empty = open(&rt, 2, b"");
     expect_eq(&rt, empty.tree().len(), 0);
 }
+
+// Bytes in memory are read without a failure: each part of a table has a session, or a fault of its own.
+#[test]
+fn no_failed_read_is_reported(rt: HostRuntime) {
+    let settings = settings(&rt, 2);
+    let table = b"1,0,10,0,10\n\"2\",5,15,5,15,3\r\n\n\"3,20,30,0,10\n4,-5,-1,-5,x,63\n";
+    for end in 0..=table.len() {
+        let fault = Session::open(rt.alloc(), &settings, &table[..end]).err();
+        let is_failure = match fault {
+            None => false,
+            Some(RunFault::Table(cause)) => cause == TableFault::Read
+                || cause == TableFault::Memory,
+            Some(_) => true,
+        };
+        expect_eq(&rt, (end, is_failure), (end, false));
+    }
+}

@@ -1,6 +1,7 @@
 pub mod Accounts
 pub mod Endings
 pub mod Exchanges
+pub mod Exits
 pub mod Lines
 pub mod Progresses
 pub mod Pushes

@@ -9,15 +9,19 @@
 #![tactic(auto)]
 
 mod batch;
+mod ending;
 mod exchange;
 mod filter;
+mod program;
 mod progress;
 mod query;
 mod reply;
 mod serving;
 
 pub use batch::answer_batch;
+pub use ending::Ending;
 pub use filter::{Outcome, load, run, run_std};
+pub use program::open_and_run;
 pub use rt_command::{ArgFault, Invocation, Name, Settings, settings_of};
 pub use rt_device::{
     BufferedSink, ReadFault, ReadSource, Sink, SliceSink, SliceSource, Source, WriteFault,

@@ -7,6 +7,8 @@ mod expect;
 #[cfg(test)]
 mod left_of;
 #[cfg(test)]
+mod opening;
+#[cfg(test)]
 mod own_geometries;
 #[cfg(test)]
 mod random;

@@ -18,7 +18,7 @@ use std::process::Abort;
 use std::test::Fail;
 
 // The five boxes of the examples, in the order of their records.
-static BOXES: [(i64, Sides); 5] = [
+pub(crate) static BOXES: [(i64, Sides); 5] = [
     (1, [0, 10, 0, 10]),
     (2, [5, 15, 5, 15]),
     (3, [20, 30, 0, 10]),
@@ -26,7 +26,7 @@ static BOXES: [(i64, Sides); 5] = [
     (5, [12, 12, 12, 12]),
 ];
 
-fn pack(rt: &(impl Abort + AllocGlobal), boxes: &[(i64, Sides)]) -> Tree {
+pub(crate) fn pack(rt: &(impl Abort + AllocGlobal), boxes: &[(i64, Sides)]) -> Tree {
     let mut table = Table::empty(rt.alloc());
     for (id, sides) in boxes {
         push(rt, &mut table, *id, boxed(rt, *sides));
@@ -137,7 +137,7 @@ fn expect_with_limits<G: Geometry>(
     }
 }
 
-fn search<'a, G: Geometry>(
+pub(crate) fn search<'a, G: Geometry>(
     rt: &(impl Abort + AllocGlobal),
     tree: &'a Tree,
     geometry: &'a G,

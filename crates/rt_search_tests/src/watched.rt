@@ -3,11 +3,12 @@
 use rt_geo::{Geometry, Info, Verdict};
 use std::cell::Cell;
 
-/// Answers as another geometry, and keeps the greatest x of the first ten boxes that it is shown.
+/// Answers as another geometry, and keeps the greatest x and the level of the first ten boxes that it is shown.
 #[derive(Drop)]
 pub struct Watched<G: Geometry> {
     geometry: G,
     shown: Cell<[i32; 10]>,
+    levels: Cell<[u8; 10]>,
     checks: Cell<usize>,
 }
 
@@ -16,6 +17,7 @@ impl<G: Geometry> Watched<G> {
         Watched {
             geometry,
             shown: Cell::new([0; 10]),
+            levels: Cell::new([0; 10]),
             checks: Cell::new(0),
         }
     }
@@ -23,6 +25,14 @@ impl<G: Geometry> Watched<G> {
     /// What it was shown, and 0 for each box that it wasn't.
     pub fn shown(&self) -> [i32; 10] {
         self.shown.get()
+    }
+
+    /// Which of the boxes it was shown is the first one of a level with a greatest x.
+    pub fn place_of(&self, level: u8, max_x: i32) -> Option<usize> {
+        let shown = self.shown.get();
+        let levels = self.levels.get();
+        (0..self.checks.get().min(10)).find(|place| shown[*place] == max_x
+            && levels[*place] == level)
     }
 }
 
@@ -39,6 +49,9 @@ impl<G: Geometry> Geometry for Watched<G> {
         if place < shown.len() {
             shown[place] = info.bounds.max_x();
             self.shown.set(shown);
+            let mut levels = self.levels.get();
+            levels[place] = info.level;
+            self.levels.set(levels);
             self.checks.set(place + 1);
         }
         self.geometry.check(info)

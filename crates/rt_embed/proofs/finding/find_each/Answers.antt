@@ -33,7 +33,7 @@ returns-in_default-clause-found c =
         (
           get_or queries done no_query,
           slice_get-get_or queries done no_query c.loop-done-test.true,
-          sym (c.ok.ensures.value ∙ ap result_ok c.question.ensures) ∙ c.in_default.is,
+          sym (ap result_ok c.question.ensures) ∙ ap result_ok c.in_default.is,
         ),
       );
     })
@@ -52,13 +52,13 @@ returns-then-not-position-clause-found c =
     let from = c.loop-done.position.end in
     let end = c.find_one-left.result.0.end in
     let first = lists_of entries vertices skip (take done queries) in
-    let asked = c.in-Some.question in
+    let asked = c.in-Ok.question in
     let last = drop c.loop-done.position.skip (answers_to entries asked) in
     let cut = put.cut (search rules) in
     let both : lists_of entries vertices skip (take (done + 1) queries) ≡ first ++ last =
     lists_more entries vertices skip queries done no_query inside
     ∙ ap (λ list. first ++ drop (skip - length (flat_map (list_of entries vertices) (take done queries))) list)
-    (list_is entries vertices skip (get_or queries done no_query) asked (sym (c.ok.ensures.value ∙ ap result_ok c.question.ensures) ∙ c.in-Some.is))
+    (list_is entries vertices skip (get_or queries done no_query) asked (sym (ap result_ok c.question.ensures) ∙ ap result_ok c.in-Ok.is))
     ∙ ap (λ n. first ++ drop n (answers_to entries asked)) (sym kept.skip) in
     let long : length (lists_of entries vertices skip (take (done + 1) queries)) ≡ from + length last =
     omega (arith, ap length both, length-append first last, kept.end) in
@@ -91,10 +91,10 @@ loop-done-preserved c =
     let from = c.loop-done.position.end in
     let end = c.find_one-left.result.0.end in
     let first = lists_of entries vertices skip (take done queries) in
-    let asked = c.in-Some.question in
+    let asked = c.in-Ok.question in
     let last = drop c.loop-done.position.skip (answers_to entries asked) in
     let whole = put.whole (search rules) in
-    let is = list_is entries vertices skip (get_or queries done no_query) asked (sym (c.ok.ensures.value ∙ ap result_ok c.question.ensures) ∙ c.in-Some.is) in
+    let is = list_is entries vertices skip (get_or queries done no_query) asked (sym (ap result_ok c.question.ensures) ∙ ap result_ok c.in-Ok.is) in
     let both : lists_of entries vertices skip (take (done + 1) queries) ≡ first ++ last =
     lists_more entries vertices skip queries done no_query inside
     ∙ ap (λ list. first ++ drop (skip - length (flat_map (list_of entries vertices) (take done queries))) list) is
@@ -108,7 +108,7 @@ loop-done-preserved c =
       capacity = search rules;
       worked = finds_next c.args.tree.now vertices skip (length c.args.ids.now) queries done no_query inside c.loop-done.position asked
           (length c.loop-done.ids) c.args.frontier.opened c.loop-done.frontier.opened c.find_one-left.result.1.opened kept.skip kept.end
-          (omega (arith, kept.place, kept.ids_len)) kept.ids_len (sym (c.ok.ensures.value ∙ ap result_ok c.question.ensures) ∙ c.in-Some.is) kept.worked
+          (omega (arith, kept.place, kept.ids_len)) kept.ids_len (sym (ap result_ok c.question.ensures) ∙ ap result_ok c.in-Ok.is) kept.worked
           c.find_one-left.ensures.worked;
       ids_len = put.ids_len ∙ kept.ids_len;
       scores_len = put.scores_len ∙ kept.scores_len;
@@ -123,7 +123,7 @@ loop-done-preserved c =
       ends_stand = subst (Begins c.put_at.new.array) (ends_more entries vertices skip queries done end long)
           (c.put_at.ensures.put _ (ends_len entries vertices skip queries done) kept.ends_stand);
       asked = all_more (λ query. IsSome (question_of vertices query)) queries done no_query inside kept.asked
-          (ap is_some (sym (c.ok.ensures.value ∙ ap result_ok c.question.ensures) ∙ c.in-Some.is));
+          (ap is_some (sym (ap result_ok c.question.ensures) ∙ ap result_ok c.in-Ok.is));
     }
 
 -- ---- the nodes that are opened
@@ -131,17 +131,17 @@ loop-done-preserved c =
 pub returns-in_default-clause-worked : goal.returns-in_default-clause-worked
 returns-in_default-clause-worked c =
     let none = finds_none c.args.tree.now c.args.vertices.now c.args.skip (length c.args.ids.now) c.args.queries.now c.loop-done.done no_query
-    c.loop-done-test.true (sym (c.ok.ensures.value ∙ ap result_ok c.question.ensures) ∙ c.in_default.is) in
+    c.loop-done-test.true (sym (ap result_ok c.question.ensures) ∙ ap result_ok c.in_default.is) in
     rw (c.stopped.ensures, none) c.loop-done.invariant.worked
 
 pub returns-then-not-position-clause-worked : goal.returns-then-not-position-clause-worked
 returns-then-not-position-clause-worked c =
     rw c.stopped-then-not-position.ensures
     (finds_next c.args.tree.now c.args.vertices.now c.args.skip (length c.args.ids.now) c.args.queries.now c.loop-done.done no_query
-    c.loop-done-test.true c.loop-done.position c.in-Some.question (length c.loop-done.ids) c.args.frontier.opened c.loop-done.frontier.opened
+    c.loop-done-test.true c.loop-done.position c.in-Ok.question (length c.loop-done.ids) c.args.frontier.opened c.loop-done.frontier.opened
     c.find_one-left.result.1.opened c.loop-done.invariant.skip c.loop-done.invariant.end
     (omega (arith, c.loop-done.invariant.place, c.loop-done.invariant.ids_len)) c.loop-done.invariant.ids_len
-    (sym (c.ok.ensures.value ∙ ap result_ok c.question.ensures) ∙ c.in-Some.is) c.loop-done.invariant.worked c.find_one-left.ensures.worked)
+    (sym (ap result_ok c.question.ensures) ∙ ap result_ok c.in-Ok.is) c.loop-done.invariant.worked c.find_one-left.ensures.worked)
 
 pub returns-clause-worked : goal.returns-clause-worked
 returns-clause-worked c =

@@ -8,12 +8,12 @@ use Rattle.rt_embed.proofs.measuring.measure_each.Goals as goal
 pub loop-done-preserved : goal.loop-done-preserved
 loop-done-preserved c =
     let done = c.loop-done.done in
-    let asked = sym (c.ok.ensures.value ∙ ap result_ok c.question.ensures) ∙ c.in-Some.is in
+    let asked = sym (ap result_ok c.question.ensures) ∙ ap result_ok c.in-Ok.is in
     record {
       bound = search rules;
       len = search rules;
       capacity = search rules;
-      worked = measures_next c.args.tree.now c.args.vertices.now c.args.measure c.args.queries.now done _ (search rules) c.in-Some.question
+      worked = measures_next c.args.tree.now c.args.vertices.now c.args.measure c.args.queries.now done _ (search rules) c.in-Ok.question
           c.args.frontier.opened c.loop-done.frontier.opened c.measure_one-found.result.1.opened asked c.loop-done.invariant.worked
           c.measure_one-found.ensures.worked;
       measured = mapped_more (measured_of c.args.tree.now c.args.vertices.now c.args.measure) c.args.queries.now c.loop-done.measured done

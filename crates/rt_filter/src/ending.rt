@@ -1,15 +1,21 @@
 //! How the program ends: its exit status, and the line on standard error.
 
-ghost use Rattle.std.specs.{Io.KnownBytes.{Appends}, Prelude.{◌≡◌, OnOk}};
+ghost use Rattle.std.specs.{Io.KnownBytes.{Appends}, Prelude.{◌≡◌, ◌≢◌, ◌⊎◌, OnOk}};
 ghost use Rattle.rt_text.specs.RunFaults.{run_fault_line};
-ghost use Rattle.rtfilter.specs.Endings.{report_of, status_of};
+ghost use Rattle.rt_filter.specs.Exits.{exit_status, printed_for, refusal_of, report_of};
 
-use rt_filter::{Outcome, RunFault, run_fault_line};
+use crate::filter::Outcome;
+use rt_command::ArgFault;
+use rt_text::{RunFault, run_fault_line};
 use std::io::{self, Write};
 
+/// What help prints.
+const USAGE: &[u8] =
+    b"usage: rtfilter [-H|--header] [--fanout M] [--max-entries N] TABLE [QUERIES]\n";
+
 /// How the program ends.
-#[derive(Clone, Copy)]
-pub(crate) enum Ending {
+#[derive(Clone, Copy, Debug, PartialEq, Eq)]
+pub enum Ending {
     /// The run was made, and ended so.
     Ran(Outcome),
     /// Help was asked for, and printed.
@@ -27,9 +33,26 @@ pub(crate) enum Ending {
 }
 
 impl Ending {
+    /// How the program ends where the words of the command line ask for no run. Help is printed.
+    pub fn without_run<W: Write>(fault: ArgFault, output: &mut W) -> Ending
+        ensures ending { (result ≡ refusal_of fault)
+            ⊎ ((fault ≡ ArgFault.Help) × (result ≡ Ending.NotHelped)) }
+        ensures printed { result ≢ Ending.NotHelped → Appends (W.contents output.old)
+            (W.contents output.new) (printed_for fault) }
+    {
+        match fault {
+            ArgFault::Help => match output.write_all(USAGE) {
+                Ok(()) => Ending::Helped,
+                Err(_) => Ending::NotHelped,
+            },
+            ArgFault::Usage => Ending::BadCommandLine,
+            ArgFault::Memory => Ending::NoMemory,
+        }
+    }
+
     /// The exit status.
-    pub(crate) fn status(self) -> u8
-        ensures { result ≡ status_of self }
+    pub fn status(self) -> u8
+        ensures { result ≡ exit_status self }
     {
         match self {
             Ending::Ran(outcome) => outcome.status,
@@ -43,7 +66,7 @@ impl Ending {
     }
 
     /// Writes the line that reports it, and nothing where there is none.
-    pub(crate) fn report<W: Write>(self, errors: &mut W) -> io::Result<()>
+    pub fn report<W: Write>(self, errors: &mut W) -> io::Result<()>
         ensures { OnOk result
             (Appends (W.contents errors.old) (W.contents errors.new) (report_of self)) }
     {
