@@ -28,7 +28,7 @@ CRATES = ROOT / "crates"
 
 # The most lines that public contracts may reach, that the headline alone may, that the library may beside the program, and
 # that the library's exports may in all.
-MOST_LINES = {"contracts": 930, "headline": 700, "library": 240, "exports": 780}
+MOST_LINES = {"contracts": 930, "headline": 700, "library": 348, "exports": 907}
 
 # The headline: its crate, its call and its clause.
 HEADLINE = ("rt_filter", "run", "headline")

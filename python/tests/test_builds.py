@@ -62,7 +62,7 @@ def sanitized(tmp_path: Path) -> Path:
     package = tmp_path / "rtfilter"
     shutil.copytree(PACKAGE, package, ignore=shutil.ignore_patterns("*.so", "__pycache__"))
     include = subprocess.check_output([sys.executable, "-c", "import sysconfig; print(sysconfig.get_paths()['include'])"], text=True)
-    words = ["gcc", "-g", "-O1", "-fsanitize=address,undefined", "-fno-sanitize-recover=all", "-fPIC", "-shared"]
+    words = ["gcc", "-g", "-O", "-fsanitize=address,undefined", "-fno-sanitize-recover=all", "-fPIC", "-shared"]
     words += [f"-I{include.strip()}", f"-I{ROOT / 'include'}", str(ROOT / "python/engine/_engine.c"), LIBRARY]
     subprocess.run([*words, "-o", str(package / "_engine.abi3.so")], check=True)
     return package
