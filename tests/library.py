@@ -340,6 +340,32 @@ class Checks:
         same(run("pkg-config", "--modversion", "rtfilter", env=words).strip(), version)
         same(re.search(r'^version = "(.*)"$', (ROOT / "bindings/rust/Cargo.toml").read_text(), re.MULTILINE)[1], version)
 
+    def check_prefix(self):
+        """The lines of docs/library.md for a prefix of one's own, as they are typed."""
+        wants("cc", "pkg-config", "bash")
+        home = self.folder / "home"
+        home.mkdir()
+        shutil.copy(ROOT / "examples/library/boxes.c", home)
+        page = (ROOT / "docs/library.md").read_text(encoding="utf-8")
+        lines = re.search(r"\n### Under a prefix of your own\n.*?```\n(.*?)```", page, re.DOTALL)[1].splitlines(keepends=True)
+        typed = "".join(line[2:] for line in lines if line.startswith("$ "))
+        made = f"make --silent -C {ROOT} ARCHIVE={self.archive} OUT={self.out} install-library"
+        same(typed.count("make library install "), 1, typed)
+        script = "set -e\n" + typed.replace("make library install", made)
+        words = {"PATH": os.environ["PATH"], "HOME": str(home), "LDLIBS": " ".join(self.libraries)}
+        same(run("bash", "-c", script, cwd=home, env=words), "".join(line for line in lines if not line.startswith("$ ")))
+
+    def check_install_keeps_what_is_named(self):
+        """A program that is named to be installed stays, though an object file of its name lies beside it."""
+        folder, prefix = self.folder / "named", self.folder / "named-prefix"
+        folder.mkdir()
+        shutil.copy(self.program, folder / "rtfilter")
+        (folder / "rtfilter.o").write_bytes(b"")  # newer than the program
+        words = f"PROGRAM={folder}/rtfilter", f"PREFIX={prefix}", f"OUT={folder}", "PREFORK="
+        run("make", "--silent", "-C", ROOT, "install", *words, env={**os.environ, "MAKEFLAGS": ""})
+        kept = [path.read_bytes() == self.program.read_bytes() for path in (folder / "rtfilter", prefix / "bin/rtfilter")]
+        same(kept, [True, True])
+
     def check_uninstall(self):
         """It leaves nothing of an installation."""
         prefix = self.folder / "elsewhere"
