@@ -47,7 +47,7 @@ extern "C" {
 #define RTFILTER_INLINE inline
 #endif
 
-/* The version of this header. Programs that were built with an older header run with a newer library of the same soname. */
+/* The version of this header. Programs that were built with a header of 0.3.0 or later run with a newer library of the same soname. */
 #define RTFILTER_VERSION_MAJOR 0
 #define RTFILTER_VERSION_MINOR 3
 #define RTFILTER_VERSION_PATCH 0
