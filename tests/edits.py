@@ -97,13 +97,13 @@ PLANTS = [
     ),
     (
         "any end but a proof is a refusal",
-        "kind in (RT.REFUSED, RT.AT_LIMIT)",
+        'kind in (RT.REFUSED, RT.AT_LIMIT) and "`" in text',
         "kind != RT.MISSED",
         ["same_is_nothing", "same_not_compiled", "same_not_there"],
     ),
     (
         "a proof is a refusal",
-        "kind in (RT.REFUSED, RT.AT_LIMIT)",
+        'kind in (RT.REFUSED, RT.AT_LIMIT) and "`" in text',
         "kind != RT.BAD",
         ["same_is_nothing", "same_without_an_effect"],
     ),
