@@ -5,8 +5,7 @@ usage: bench/bench.py PROGRAM [--only PART].. [--library ARCHIVE]
 
 What bench/peers holds is compiled into build/peers with g++: Boost.Geometry, GEOS, libspatialindex, SQLite's R*Tree,
 and a scan without an index. Debian's packages for them are libboost-dev, libgeos++-dev, libspatialindex-dev and
-libsqlite3-dev; who isn't there is passed over and told, and so are instructions without valgrind, and copies without a
-C compiler. Each gives rtfilter's answers, byte for byte, or this fails. The parts:
+libsqlite3-dev; who isn't there is passed over and told, and so are instructions without valgrind. Each gives rtfilter's answers, byte for byte, or this fails. The parts:
 
 - growth: loads, memory and lines over the number of boxes
 - lines: every verb, region, order and limit
@@ -14,10 +13,9 @@ C compiler. Each gives rtfilter's answers, byte for byte, or this fails. The par
 - ids: what the order of ids does to a load
 - instructions: of a record and of lines, by valgrind
 - elsewhere: few queries over a big table, and boxes that change, beside SQLite's
-- copies: copies of a table, and connections
 - library: librtfilter, the ARCHIVE or build/librtfilter.a, beside the libraries of the others in one process
 
-Time is that of the processor, but for copies and threads that of the wall. All of it takes some minutes on four cores, wants
+Time is that of the processor, but for threads that of the wall. All of it takes some minutes on four cores, wants
 nothing else to run, and is no part of the gate. The figures are written into build/bench.json, from which
 bench/report.py makes tables and pictures.
 """
@@ -34,7 +32,6 @@ sys.dont_write_bytecode = True
 
 import kinds
 import timing
-from copies import copies
 from counting import instructions
 from elsewhere import elsewhere
 from in_process import library
@@ -151,12 +148,6 @@ class Bench:
     def elsewhere(self):
         return elsewhere(self.programs, self.folder)
 
-    def copies(self):
-        found = copies(self.programs[OURS], self.folder)
-        if not found:
-            self.passed_over["copies"] = "there is no build/rtfilter-prefork.so, which wants a C compiler"
-        return found
-
     def library(self):
         found, differences, passed_over = library(self.archive, self.table("even", BOXES), BOXES, self.folder)
         self.passed_over |= passed_over
@@ -166,7 +157,7 @@ class Bench:
         return found
 
 
-PARTS = "growth", "lines", "tables", "ids", "instructions", "elsewhere", "copies", "library"
+PARTS = "growth", "lines", "tables", "ids", "instructions", "elsewhere", "library"
 ITS_OWN_MACHINE = {"library"}  # parts that have in their figures what they were made on
 
 

@@ -168,12 +168,6 @@ def changes(found):
     return table(["boxes", *(count_told(int(boxes)) for boxes in sizes)], rows)
 
 
-def copies(found):
-    it = found["copies"]
-    rows = [[name, time_told(row["seconds"]), bytes_told(row["memory"])] for name, row in it["rows"].items()]
-    return table([f"over {count_told(it['boxes'])} boxes", "time", "memory"], rows)
-
-
 def calls(found):
     """librtfilter beside the libraries of the others."""
     it = found["library"]
@@ -223,7 +217,6 @@ TABLES = {
     "instructions": (instructions, ["instructions"]),
     "queries": (queries, ["elsewhere"]),
     "changes": (changes, ["elsewhere", "growth"]),
-    "copies": (copies, ["copies"]),
     "library machine": (library_made_on, ["library"]),
     "library": (calls, ["library"]),
     "library forms": (forms, ["library"]),
