@@ -200,7 +200,7 @@ def geos_c(boxes):
     """GEOS's tree from C; the pairs come over a pipe."""
     with tempfile.TemporaryDirectory() as folder:
         program = f"{folder}/geos"
-        subprocess.run(["gcc", "-O3", "-o", program, ROOT / "bench/peers/geos_bulk.c", "-lgeos_c"], check=True, capture_output=True)
+        subprocess.run(["gcc", "-O", "-o", program, ROOT / "bench/peers/geos_bulk.c", "-lgeos_c"], check=True, capture_output=True)
         windows = windows_of(WINDOWS, len(boxes))
         for name, rows in (("boxes", boxes), ("windows", windows)):
             rows[:, [0, 2, 1, 3]].astype("i8").tofile(f"{folder}/{name}")
