@@ -127,7 +127,7 @@ test-full: build/rtfilter
 bench: all library
 	@bench/bench.py build/rtfilter --library $(LIBRTFILTER)
 
-# The Debian packages, in build/: the program, the library, the Python package, the service. They want debhelper, dh-python,
+# The Debian packages, in build/: the program with the pages, the library, the Python package, the service, the tools. They want debhelper, dh-python,
 # dpkg-dev, gcc, python3-dev and python3-setuptools.
 deb: $(PROGRAM) $(LIBRTFILTER)
 	@packaging/make_packages.py $(PROGRAM) $(LIBRTFILTER) build
@@ -138,7 +138,7 @@ wheel: $(PROGRAM) build/rtfilter-prefork.so $(LIBRTFILTER)
 
 # The reference of the Python package, in build/reference. It wants python3-sphinx of Debian.
 reference:
-	@/usr/bin/python3 -B -m sphinx -q -W docs/reference build/reference
+	@PYTHONPATH=python /usr/bin/python3 -B -m sphinx -q -W docs/reference build/reference
 
 SHARE := $(DESTDIR)$(PREFIX)/share
 SERVING := $(DESTDIR)$(PREFIX)/lib/rtfilter

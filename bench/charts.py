@@ -8,7 +8,7 @@ from html import escape
 from programs import OURS, ROOT, SCAN
 
 sys.path.append(str(ROOT / "tools"))
-from pictures import LABEL, LINE, REGION, SANS
+from pictures import LINE, REGION, SANS
 
 COLOURS = {
     OURS: "#1f6feb",
@@ -24,11 +24,13 @@ LEFT, RIGHT, ABOVE, BELOW = 62, 132, 44, 40  # of a panel, round its lines
 
 def colour(name):
     """The colour of a program, or of what its name begins with."""
-    return next((it for program, it in COLOURS.items() if name.startswith(program)), LABEL)
+    return next((it for program, it in COLOURS.items() if name.startswith(program)), LINE)
 
 
-def text(x, y, words, anchor="start", size=12, fill=LABEL, weight="normal"):
-    look = f'text-anchor="{anchor}" font-size="{size}" font-family="{SANS}" fill="{fill}" font-weight="{weight}"'
+def text(x, y, words, anchor="start", size=12, fill=None, weight="normal"):
+    """A line of text, in the colour of labels or in another one."""
+    ink = f'fill="{fill}"' if fill else 'class="label"'
+    look = f'text-anchor="{anchor}" font-size="{size}" font-family="{SANS}" {ink} font-weight="{weight}"'
     return f'<text x="{x:.1f}" y="{y:.1f}" {look}>{escape(words)}</text>'
 
 
@@ -124,7 +126,7 @@ class Panel:
 
     @staticmethod
     def ring(x, y, words):
-        look = f'r="7" fill="none" stroke="{LABEL}" stroke-width="2"'
+        look = f'r="7" fill="none" stroke="{LINE}" stroke-width="2"'
         return [f'<circle cx="{x:.1f}" cy="{y:.1f}" {look}/>', text(x, y + 21, words, "middle", weight="bold")]
 
     def names(self, level, upright):

@@ -128,7 +128,7 @@ def ids(found):
 
 
 def loads(found):
-    """The table of docs/table-format.md."""
+    """The table of docs/tables.md."""
     rows = [
         [order, time_told(row["load"][OURS]), bytes_told(row["loaded"][OURS]["most"])]
         for order, row in found["ids"]["rows"].items()

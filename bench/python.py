@@ -1,7 +1,7 @@
 #!/usr/bin/python3
 """Measures the Python package beside rtree, shapely, geopandas, GEOS from C and the C call alone.
 
-usage: bench/python.py [--boxes N] [--only WORD]..
+usage: PYTHONPATH=python bench/python.py [--boxes N] [--only WORD]..
 
 Prints one table: the time of each case, the least of some runs, and how many times that of the first case with the same name it
 is. Each case runs alone in a process of its own, and prints a sum of its answers; those of one name have to be the same. With
@@ -27,7 +27,6 @@ import numpy
 
 sys.dont_write_bytecode = True
 ROOT = Path(__file__).resolve().parent.parent
-sys.path.insert(0, str(ROOT / "python"))
 warnings.simplefilter("ignore")
 
 SIDE, LARGEST, HITS, WINDOWS = 1_000_000, 1_000, 20, 10_000

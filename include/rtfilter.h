@@ -49,10 +49,10 @@ extern "C" {
 
 /* The version of this header. Programs that were built with a header of 0.3.0 or later run with a newer library of the same soname. */
 #define RTFILTER_VERSION_MAJOR 0
-#define RTFILTER_VERSION_MINOR 3
+#define RTFILTER_VERSION_MINOR 4
 #define RTFILTER_VERSION_PATCH 0
 
-/* The version of the library that is loaded, such as "0.3.0". The string is static. */
+/* The version of the library that is loaded, such as "0.4.0". The string is static. */
 const char *rtfilter_version(void);
 
 /* ---- Codes */

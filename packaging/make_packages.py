@@ -4,8 +4,8 @@
 usage: packaging/make_packages.py PROGRAM LIBRARY FOLDER
 
 LIBRARY is librtfilter.a, of which the shared one is made. Writes the packages to the folder and prints their names: `rtfilter`
-with the program and the library of the service, `librtfilter0` and `librtfilter-dev`, the debug symbols of both,
-`python3-rtfilter` and `rtfilter-service`. The version is that of VERSION, the changes and their dates are those
+with the program, the library of the service and the pages, `librtfilter0` and `librtfilter-dev`, the debug symbols of both,
+`python3-rtfilter`, `rtfilter-service` and `rtfilter-tools`. The version is that of VERSION, the changes and their dates are those
 of CHANGELOG.md. The same files make the same bytes. It wants debhelper, dh-python, dpkg-dev, gcc, python3-dev
 and python3-setuptools of Debian 12.
 """
@@ -27,15 +27,16 @@ MAINTAINER = "The maintainers of rtfilter <maintainers@rtfilter.invalid>"  # as 
 REVISION = "1"  # of the packages of one version
 WIDTH = 76  # of the changes
 
-# All pages but docs/README.md, which names the folders of the repository: README.md links to them, and they to each other.
-PAGES = sorted(f"docs/{page.name}" for page in (ROOT / "docs").glob("*.md") if page.name != "README.md")
+# All pages: README.md links to them, and they to each other.
+PAGES = sorted(str(page.relative_to(ROOT)) for page in (ROOT / "docs").rglob("*.md"))
 
 # What packages are made of, beside the program.
 SOURCES = [
-    "Makefile", "VERSION", "README.md", "CONTRIBUTING.md", "crates.txt", *PAGES, "include", "library", "bindings", "docs/pictures", "docs/rtfilter.1",
-    "docs/rtfilter-serve.1", "packaging/rtfilter.bash", "packaging/rtfilter-serve.bash", "service/README.md", "service/prefork.c", "service/serve.py", "service/service.py", "service/listening.py", "service/health.py", "service/prefork.py",
+    "Makefile", "VERSION", "README.md", "CONTRIBUTING.md", "CHANGELOG.md", "crates.txt", *PAGES, "include", "library", "bindings", "docs/pictures", "docs/rtfilter.1",
+    "docs/rtfilter-serve.1", "docs/rtfilter-fence.1", "docs/rtfilter-tiles.1", "packaging/rtfilter.bash", "packaging/rtfilter-serve.bash",
+    "packaging/rtfilter-fence.bash", "packaging/rtfilter-tiles.bash", "service/prefork.c", "service/serve.py", "service/service.py", "service/listening.py", "service/health.py", "service/prefork.py",
     "service/rtfilter.service", "service/rtfilter.socket", "python/rtfilter", "python/engine", "python/setup.py", "python/pyproject.toml", "python/README.md",
-    *(f"examples/{name}" for name in ("common", "data", "geofence", "languages", "library", "roads", "tiles")),
+    *(f"examples/{name}" for name in ("data", "languages", "library", "roads.py")),
 ]
 RELEASE = re.compile(r"^## (\S+), (\d{4}-\d\d-\d\d)\n\n((?:- .*\n|  .*\n)+)", re.MULTILINE)
 

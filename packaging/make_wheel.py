@@ -28,7 +28,7 @@ GLIBC = 2, 34
 TAG = f"cp311-abi3-manylinux_{GLIBC[0]}_{GLIBC[1]}_x86_64"
 LIBRARIES = {"libc.so.6", "libm.so.6", "ld-linux-x86-64.so.2"}
 EXTENSION = "rtfilter/_engine.abi3.so"
-SUFFIXES = {".py", ".pyi", ".typed"}
+SUFFIXES = {".css", ".html", ".js", ".py", ".pyi", ".typed"}
 
 
 class File(NamedTuple):
@@ -74,7 +74,13 @@ def write(folder: Path, files: dict[str, File], about: dict[str, Any]) -> Path:
     named = f"{about['name']}-{about['version']}"
     info = f"{named}.dist-info"
     wheel = f"Wheel-Version: 1.0\nGenerator: make_wheel\nRoot-Is-Purelib: false\nTag: {TAG}\n"
-    files = {**files, f"{info}/METADATA": File(metadata(about)), f"{info}/WHEEL": File(wheel.encode())}
+    scripts = "".join(f"{name} = {place}\n" for name, place in about["scripts"].items())
+    files = {
+        **files,
+        f"{info}/METADATA": File(metadata(about)),
+        f"{info}/WHEEL": File(wheel.encode()),
+        f"{info}/entry_points.txt": File(f"[console_scripts]\n{scripts}".encode()),
+    }
     recorded = "".join(record(path, file.data) for path, file in files.items())
     files[f"{info}/RECORD"] = File(f"{recorded}{info}/RECORD,,\n".encode())
     path = folder / f"{named}-{TAG}.whl"
@@ -115,7 +121,7 @@ def main() -> int:
     args = parser.parse_args()
     about = tomllib.loads((PACKAGE / "pyproject.toml").read_text(encoding="utf-8"))["project"]
     data = f"{about['name']}-{about['version']}.data"
-    sources = [it for it in sorted((PACKAGE / "rtfilter").iterdir()) if it.suffix in SUFFIXES]
+    sources = [it for it in sorted((PACKAGE / "rtfilter").rglob("*")) if it.suffix in SUFFIXES]
     files = {path.relative_to(PACKAGE).as_posix(): File(path.read_bytes()) for path in sources}
     try:
         with tempfile.TemporaryDirectory() as room:

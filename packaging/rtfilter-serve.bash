@@ -2,7 +2,7 @@
 
 _rtfilter_serve() {
   local word=${COMP_WORDS[COMP_CWORD]} before=${COMP_WORDS[COMP_CWORD - 1]}
-  local options='--unix --mode --tcp --health --connections --silence --patience --drain --load-timeout --nice
+  local options='--unix --mode --tcp --health --connections --silence --patience --drain --load-timeout
     --program -H --header --fanout --max-entries --version -h --help'
   # --fanout=16 comes as three words.
   if [[ $word == '=' ]]; then
@@ -14,7 +14,7 @@ _rtfilter_serve() {
     --fanout,*) mapfile -t COMPREPLY < <(compgen -W '2 4 8 16 32 64' -- "$word") ;;
     --unix,* | --program,*) _rtfilter_serve_files "$word" ;;
     --mode,* | --tcp,* | --health,* | --connections,* | --silence,* | --patience,* | --drain,* | --load-timeout,* | \
-      --nice,* | --max-entries,*) COMPREPLY=() ;;
+      --max-entries,*) COMPREPLY=() ;;
     *,-*) mapfile -t COMPREPLY < <(compgen -W "$options" -- "$word") ;;
     *) _rtfilter_serve_files "$word" ;;
   esac

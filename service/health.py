@@ -1,4 +1,4 @@
-"""What a service tells of itself: counts for Prometheus, and whether it is ready."""
+"""What a service reports of itself: counts for Prometheus, and whether it is ready."""
 
 import asyncio
 import contextlib
@@ -7,13 +7,13 @@ import socket
 from collections import deque
 from collections.abc import Callable, Mapping
 
-PATIENCE = 5.0  # seconds for one who asks
-MOST_AT_ONCE = 64  # who ask; one is left where so many have come later
+PATIENCE = 5.0  # seconds for one client
+MOST_AT_ONCE = 64  # clients: the oldest is dropped for one more
 MOST_HEADERS = 100  # lines: what is here already is read without a wait, and the service waits meanwhile
 
 
 async def serve(listener: socket.socket, metrics: Callable[[], Mapping[str, float]]) -> None:
-    """Answers over HTTP/1.0, whoever asks for a few seconds at most. `metrics` gives values by names and labels, those
+    """Answers over HTTP/1.0, each client for a few seconds at most. `metrics` gives values by names and labels, those
     of one name together; `ready` is one."""
     asking = deque[asyncio.StreamWriter](maxlen=MOST_AT_ONCE)
 
@@ -24,7 +24,7 @@ async def serve(listener: socket.socket, metrics: Callable[[], Mapping[str, floa
         with contextlib.suppress(OSError, ValueError), contextlib.closing(writer):
             async with asyncio.timeout(PATIENCE):
                 request = await reader.readline()
-                for _ in range(MOST_HEADERS):  # what a browser tells of itself
+                for _ in range(MOST_HEADERS):  # which are skipped
                     if not (await reader.readline()).strip():
                         writer.write(reply(request.split(), metrics()))
                         await writer.drain()

@@ -13,7 +13,7 @@ from typing import Any
 
 FIRST_GIVEN = 3  # the first descriptor that systemd passes
 BACKLOG = 4096  # as many as Linux lets wait, by default
-PATIENCE = 5.0  # seconds with who has locked a folder
+PATIENCE = 5.0  # seconds that another process may keep a folder locked
 
 
 @contextlib.contextmanager
@@ -51,7 +51,7 @@ def locked(path: str) -> Iterator[None]:
             try:
                 fcntl.flock(folder, fcntl.LOCK_EX | fcntl.LOCK_NB)
                 break
-            except BlockingIOError as error:  # whoever may read the folder may lock it
+            except BlockingIOError as error:  # every user that may read the folder may lock it
                 if time.monotonic() > until:
                     error.filename = path
                     raise
@@ -75,7 +75,7 @@ def tcp_listener(host: str, port: int) -> socket.socket:
 
 
 def given_listeners() -> list[socket.socket]:
-    """The sockets that systemd has opened for this process (sd_listen_fds), which are told once."""
+    """The sockets that systemd has opened for this process (sd_listen_fds), which come once."""
     process, count = os.environ.pop("LISTEN_PID", ""), os.environ.pop("LISTEN_FDS", "0")
     return [socket.socket(fileno=FIRST_GIVEN + at) for at in range(int(count) * (process == str(os.getpid())))]
 
@@ -91,7 +91,7 @@ def name_of(address: Any) -> str:
 
 
 def peer_of(connection: socket.socket, address: object) -> str:
-    """Who has connected, in words."""
+    """The client of a connection, in words."""
     if connection.family != socket.AF_UNIX:
         return name_of(address)
     process, user, _ = struct.unpack("iII", connection.getsockopt(socket.SOL_SOCKET, socket.SO_PEERCRED, 12))

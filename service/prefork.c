@@ -5,23 +5,23 @@
  * In the child that read goes on, with the connection as standard input and output. So each connection is the very
  * program, and the table is in memory once.
  *
- * Who starts the program gives it as standard input one end of a pair of sockets (SOCK_SEQPACKET), and keeps the other:
+ * The starter of the program gives it as standard input one end of a pair of sockets (SOCK_SEQPACKET), and keeps the other:
  * where standard input is something else, the program is as it always is.
  *
  *   A byte with a connected socket (SCM_RIGHTS), to the program: a connection. The first is to be there before the
  *   program is, and is served when the table stands; no other is to be sent before that one is answered.
  *
  *   `struct report`, from the program: of each connection, in their order, that it is begun, or why it isn't; and the
- *   end of each that was begun. Nothing is read from one before it is told to be begun, so that it may be given to
- *   another program where this one ends before. Where the starter shuts its end for reading, nothing is told.
+ *   end of each that was begun. Nothing is read from one before it is reported to be begun, so that it may be given to
+ *   another program where this one ends before. Where the starter shuts its end for reading, nothing is reported.
  *
- *   The starter's end closed, by its death too: the kernel ends the program, with its connections.
+ *   The starter's death, and its end closed once the table stands: the program ends, with its connections.
  *
- * A file that the starter names by its descriptor (RTFILTER_COMMON) has two pages, each with one number. In the first all
- * connections count the lines that they have answered. Where the second, which they can only read, isn't 0, each of them
- * ends behind a line.
+ * A file that the starter names by its descriptor (RTFILTER_COMMON) has two pages. In the first, a `struct counts`, all
+ * connections count the lines that they have answered and the time that this took. Where the second, a number which they can
+ * only read, isn't 0, each of them ends behind a line.
  *
- * Standard output is the log: it becomes standard error when the program begins, for what is told of a load can be
+ * Standard output is the log: it becomes standard error when the program begins, for what is written of a load can be
  * another file. The program leads its group of processes, which are killed with it. prefork.py starts programs so.
  */
 #define _GNU_SOURCE
@@ -44,6 +44,7 @@
 #include <sys/socket.h>
 #include <sys/syscall.h>
 #include <sys/wait.h>
+#include <time.h>
 #include <unistd.h>
 
 #ifndef TRY
@@ -53,7 +54,7 @@
 enum { CONTROL = STDIN_FILENO, LOG = STDOUT_FILENO };
 enum { NOT_BEGUN = 71 }; /* the status of a process whose set-up has failed: EX_OSERR */
 
-/* What the starter is told: of the next connection the number of its process and BEGUN, or NONE and an error; and at
+/* A report to the starter: of the next connection the number of its process and BEGUN, or NONE and an error; and at
  * its end the number again, with the status that waitpid gives. */
 struct report {
     int process, status;
@@ -61,8 +62,12 @@ struct report {
 enum { NONE = -1, BEGUN = -1 };
 
 enum { PAGE = 4096 };
-static _Atomic uint64_t of_none, never; /* what stands in the place of a file */
-static _Atomic uint64_t *all_answered = &of_none;
+struct counts {
+    _Atomic uint64_t lines, nanoseconds;
+};
+static struct counts of_none; /* these two stand in the place of a file */
+static _Atomic uint64_t never;
+static struct counts *counts = &of_none;
 static const _Atomic uint64_t *is_ending = &never;
 
 static int is_given, is_confining;
@@ -76,15 +81,16 @@ static sigset_t no_signals, of_children;
 #define END BPF_STMT(BPF_RET | BPF_K, SECCOMP_RET_KILL_PROCESS)
 #define ALLOW BPF_STMT(BPF_RET | BPF_K, SECCOMP_RET_ALLOW)
 
-/* From here on the process may read, write, give memory back and end; at any other call the kernel ends it. Numbers of
- * x32 are none of these. Whether the kernel has agreed. */
+/* From here on the process may read, write, look at the clock, give memory back and end; at any other call the kernel ends it.
+ * Numbers of x32 are none of these. Whether the kernel has agreed. */
 static int confine(void)
 {
     uint64_t end = (uint64_t)syscall(SYS_brk, 0); /* memory from here on is not to be taken */
     struct sock_filter rules[] = {
         LOAD(arch), IF(BPF_JEQ, AUDIT_ARCH_X86_64, 1, 0), END,
         LOAD(nr),
-        IF(BPF_JEQ, SYS_read, 4, 0), IF(BPF_JEQ, SYS_write, 3, 0), IF(BPF_JEQ, SYS_munmap, 2, 0),
+        IF(BPF_JEQ, SYS_read, 5, 0), IF(BPF_JEQ, SYS_write, 4, 0), IF(BPF_JEQ, SYS_munmap, 3, 0),
+        IF(BPF_JEQ, SYS_clock_gettime, 2, 0), /* where the clock can't be read without a call */
         IF(BPF_JEQ, SYS_exit_group, 1, 0), IF(BPF_JEQ, SYS_brk, 1, 7),
         ALLOW,
         LOAD_HIGH(args[0]), IF(BPF_JGT, (uint32_t)(end >> 32), 4, 0), IF(BPF_JEQ, (uint32_t)(end >> 32), 0, 2),
@@ -96,7 +102,8 @@ static int confine(void)
     return !prctl(PR_SET_NO_NEW_PRIVS, 1, 0, 0, 0) && !prctl(PR_SET_SECCOMP, SECCOMP_MODE_FILTER, &program);
 }
 
-/* Makes this child the program for one connection, once its parent has told that. */
+/* Makes this child the program for one connection, once its parent has reported that. It has no other descriptors: what it would
+ * write to the log has neither a time nor the number of the connection, and its status says the same. */
 static void become(int connection, pid_t parent)
 {
     int number, score = open("/proc/self/oom_score_adj", O_WRONLY | O_CLOEXEC);
@@ -105,68 +112,66 @@ static void become(int connection, pid_t parent)
         dprintf(STDERR_FILENO, "a connection's oom_score_adj: %m\n");
     if (prctl(PR_SET_PDEATHSIG, SIGKILL) || getppid() != parent || sigwait(&of_children, &number) ||
         dup2(connection, STDIN_FILENO) < 0 || dup2(connection, STDOUT_FILENO) < 0 ||
-        close_range(STDERR_FILENO + 1, ~0U, 0) || sigprocmask(SIG_SETMASK, &no_signals, NULL) ||
+        close_range(STDERR_FILENO, ~0U, 0) || sigprocmask(SIG_SETMASK, &no_signals, NULL) ||
         (is_confining && !confine()))
         _exit(NOT_BEGUN);
 }
 
-enum line { BLANK, ANSWERED, COMMENT }; /* what there is of a line so far */
-static enum line line = BLANK;
-static int is_in_line;
-static uint64_t answered; /* lines that were read, and have their replies at the next read */
+static int is_in_line; /* what was read last doesn't end with a line feed */
 
 /* Counts the lines that end in what was read. */
-static void count_lines(const char *text, size_t size)
+static uint64_t lines_in(const char *text, size_t size)
 {
-    const char *end = text + size;
-    is_in_line = end[-1] != '\n';
-    while (text < end) {
-        if (line == BLANK) {
-            while (text < end && (*text == ' ' || *text == '\t' || *text == '\r'))
-                text++;
-            if (text < end && *text != '\n')
-                line = *text == '#' ? COMMENT : ANSWERED;
-        }
-        text = memchr(text, '\n', (size_t)(end - text));
-        if (!text)
-            return;
-        text++;
-        answered += line == ANSWERED;
-        line = BLANK;
-    }
+    uint64_t lines = 0;
+    for (const char *end = text + size; (text = memchr(text, '\n', (size_t)(end - text))); text++)
+        lines++;
+    return lines;
+}
+
+static uint64_t nanoseconds(void)
+{
+    struct timespec now;
+    clock_gettime(CLOCK_MONOTONIC, &now);
+    return (uint64_t)now.tv_sec * 1000000000 + (uint64_t)now.tv_nsec;
 }
 
 /* The read of a connection. Where the starter wants an end, it comes behind a line, and a part of one isn't answered. */
 static ssize_t read_lines(void *buffer, size_t size)
 {
+    static uint64_t lines, since; /* what was read last, and when: its replies are written by the next read */
     ssize_t got;
-    *all_answered += answered;
-    answered = 0;
+    if (since) {
+        counts->lines += lines;
+        counts->nanoseconds += nanoseconds() - since;
+    }
+    lines = since = 0;
     if (*is_ending && !is_in_line)
         return 0;
     do /* a read with a limit of time fails where the process was stopped and goes on */
         got = syscall(SYS_read, STDIN_FILENO, buffer, size);
     while (got < 0 && errno == EINTR);
     if (got > 0) {
-        count_lines(buffer, (size_t)got);
+        lines = lines_in(buffer, (size_t)got);
+        is_in_line = ((char *)buffer)[got - 1] != '\n';
+        since = nanoseconds();
         TRY(buffer, got);
     } else if (got == 0 && *is_ending && is_in_line) {
         errno = ECANCELED;
         return -1;
     } else if (got == 0) {
-        *all_answered += line == ANSWERED; /* the last line, without an end */
-        line = BLANK;
+        counts->lines += (uint64_t)is_in_line; /* the last line, without an end */
+        is_in_line = 0;
     }
     return got;
 }
 
 /* ---- in the program */
 
-/* Tells the starter, where it listens; that it has ended is noticed elsewhere. */
-static void tell(int process, int status)
+/* Reports to the starter, where it listens; that it has ended is noticed elsewhere. */
+static void report(int process, int status)
 {
-    struct report report = { process, status };
-    if (send(CONTROL, &report, sizeof report, MSG_NOSIGNAL) < 0 && errno != EPIPE)
+    struct report sent = { process, status };
+    if (send(CONTROL, &sent, sizeof sent, MSG_NOSIGNAL) < 0 && errno != EPIPE)
         kill(0, SIGKILL); /* no memory for it: the reports that follow would be taken for others */
 }
 
@@ -181,17 +186,17 @@ static int begin(void)
         .msg_iov = &(struct iovec){ &byte, 1 }, .msg_iovlen = 1, .msg_control = extra, .msg_controllen = sizeof extra,
     };
     if (recvmsg(CONTROL, &message, MSG_CMSG_CLOEXEC) != 1)
-        return 0; /* there is none yet, or no starter, as poll tells */
-    if (message.msg_controllen >= CMSG_LEN(sizeof connection)) /* else there was no room for another descriptor */
+        return 0; /* there is none yet, or no starter, as poll reports */
+    if (message.msg_controllen >= CMSG_LEN(sizeof connection)) /* else there was no descriptor left */
         memcpy(&connection, CMSG_DATA(CMSG_FIRSTHDR(&message)), sizeof connection);
     pid_t parent = getpid(), child = connection == NONE ? NONE : fork();
     if (child == 0) {
-        all_answered = is_first ? &of_none : all_answered;
+        counts = is_first ? &of_none : counts;
         become(connection, parent);
         return 1;
     }
     is_first = 0;
-    tell(child, child > 0 ? BEGUN : connection == NONE ? EMFILE : errno);
+    report(child, child > 0 ? BEGUN : connection == NONE ? EMFILE : errno);
     if (child > 0)
         kill(child, SIGCHLD); /* it goes on */
     if (connection != NONE)
@@ -199,7 +204,7 @@ static int begin(void)
     return 0;
 }
 
-/* Reaps children that have ended, as SIGCHLD tells. */
+/* Reaps children that have ended, after SIGCHLD. */
 static void reap_children(int signals)
 {
     struct signalfd_siginfo one;
@@ -207,7 +212,7 @@ static void reap_children(int signals)
     if (read(signals, &one, sizeof one) < 0)
         return;
     for (pid_t child; (child = waitpid(-1, &status, WNOHANG)) > 0;)
-        tell(child, status);
+        report(child, status);
 }
 
 /* Serves. It returns in the child of each connection, and nowhere else. */
@@ -217,11 +222,11 @@ static void serve(void)
     struct pollfd polled[] = { { CONTROL, POLLIN, 0 }, { signalfd(-1, &of_children, SFD_CLOEXEC), POLLIN, 0 } };
     const char *file = getenv("RTFILTER_COMMON");
     if (file) {
-        all_answered = mmap(NULL, PAGE, PROT_READ | PROT_WRITE, MAP_SHARED, atoi(file), 0);
+        counts = mmap(NULL, PAGE, PROT_READ | PROT_WRITE, MAP_SHARED, atoi(file), 0);
         is_ending = mmap(NULL, PAGE, PROT_READ, MAP_SHARED, atoi(file), PAGE);
     }
-    if (all_answered == MAP_FAILED || is_ending == MAP_FAILED || polled[1].fd < 0 || sigprocmask(SIG_BLOCK, &of_children, NULL) || dup2(LOG, STDERR_FILENO) < 0 ||
-        fcntl(CONTROL, F_SETFL, 0)) /* no more SIGIO: from here on it is polled */
+    if (counts == MAP_FAILED || is_ending == MAP_FAILED || polled[1].fd < 0 || sigprocmask(SIG_BLOCK, &of_children, NULL) ||
+        dup2(LOG, STDERR_FILENO) < 0)
         _exit(NOT_BEGUN);
 #ifndef UNCONFINED /* in a test build for valgrind, which makes calls of its own */
     /* A kernel that has it would read the filter. */
@@ -241,17 +246,16 @@ static void serve(void)
     }
 }
 
-/* Before the program's main: where the starter ends during the load, the kernel ends this process by SIGIO, whatever
- * signals were blocked or ignored by whom. */
+/* Before the program's main: where the starter ends, the kernel ends this process, whatever signals were blocked or ignored by
+ * whom. */
 __attribute__((constructor)) static void watch_starter(void)
 {
     int kind = 0;
     struct pollfd starter = { CONTROL, 0, 0 };
     is_given = !getsockopt(CONTROL, SOL_SOCKET, SO_TYPE, &kind, &(socklen_t){ sizeof kind }) && kind == SOCK_SEQPACKET;
     if (is_given && (signal(SIGHUP, SIG_IGN) == SIG_ERR || /* which is for its starter, though all may be sent it */
-                     sigprocmask(SIG_SETMASK, &no_signals, NULL) || signal(SIGIO, SIG_DFL) == SIG_ERR ||
-                     signal(SIGCHLD, SIG_DFL) == SIG_ERR || fcntl(CONTROL, F_SETOWN, getpid()) ||
-                     fcntl(CONTROL, F_SETFL, O_ASYNC) || poll(&starter, 1, 0))) /* it has ended before */
+                     sigprocmask(SIG_SETMASK, &no_signals, NULL) || signal(SIGCHLD, SIG_DFL) == SIG_ERR ||
+                     prctl(PR_SET_PDEATHSIG, SIGKILL) || poll(&starter, 1, 0))) /* it has ended before */
         _exit(NOT_BEGUN);
 }
 

@@ -20,6 +20,7 @@ SIZE = b"count all\n"  # what a program is asked first
 REPORT = struct.Struct("ii")  # the number of a process, and its status
 BEGUN = -1  # in place of a status
 NUMBER = struct.Struct("Q")
+COUNTS = struct.Struct("QQ")  # lines that were answered, and the nanoseconds that this took
 PAGE = 4096
 FIRST_FREE = 3  # descriptor: those below are standard files, even where they are closed here
 
@@ -39,7 +40,7 @@ class Started(NamedTuple):
     """A program that loads its table, and then serves. Closing `control` ends it, with its connections."""
 
     process: subprocess.Popen[bytes]  # which leads a group of processes
-    control: socket.socket  # non-blocking: `give` gives it connections, and it tells reports
+    control: socket.socket  # non-blocking: `give` gives it connections, and reports come from it
     first: socket.socket  # `ok 1 SIZE` comes here once it serves; an end without that, where it never will
 
 
@@ -52,10 +53,10 @@ class Common:
         os.ftruncate(self.file, 2 * PAGE)
         self._memory = mmap.mmap(self.file, 2 * PAGE)
 
-    @property
-    def answered(self) -> int:
-        """How many lines were answered."""
-        return int(NUMBER.unpack_from(self._memory)[0])
+    def metrics(self) -> dict[str, float]:
+        """How many lines were answered, and the seconds from each read of lines to the next read."""
+        lines, nanoseconds = COUNTS.unpack_from(self._memory)
+        return {"lines_answered_total": lines, "busy_seconds_total": round(nanoseconds / 1e9, 6)}
 
     def end(self) -> None:
         """Has each connection end behind a line. One that waits for the next has to be woken, by an end of its input."""
@@ -69,7 +70,7 @@ def give(control: socket.socket, connection: socket.socket) -> None:
 
 
 def pair(kind: int = socket.SOCK_STREAM) -> tuple[socket.socket, socket.socket]:
-    """Two sockets that are connected, and wait, whatever `socket.setdefaulttimeout` was told."""
+    """Two sockets that are connected, and wait, whatever `socket.setdefaulttimeout` was given."""
     ends = socket.socketpair(socket.AF_UNIX, kind)
     for end in ends:
         end.setblocking(True)

@@ -1,7 +1,7 @@
 #!/usr/bin/env python3
 """Holds a table with rtfilter and answers query lines over sockets: each connection is a process of the program.
 
-The table is exchanged for what its file then holds on SIGHUP. README.md has the rules.
+The table is exchanged for what its file then holds on SIGHUP. docs/service.md has the rules.
 """
 
 import argparse
@@ -11,7 +11,6 @@ import os
 import resource
 import selectors
 import signal
-import socket
 import stat
 import sys
 from collections.abc import Callable, Sequence
@@ -22,7 +21,7 @@ import prefork
 from listening import given_listeners, name_of, tcp_listener, unix_listener
 from service import NO_SERVICE, SIGNALS, Service, log
 
-VERSION = "0.3.0"
+VERSION = "0.4.0"
 LOOPBACK = "127.0.0.1"
 MOST_CONNECTIONS = 1 << 20  # as prefork.c has it
 LONGEST = 1e8  # seconds, three years
@@ -33,7 +32,7 @@ def main(words: Sequence[str]) -> int:
     args = parser.parse_args(words)
     try:
         with contextlib.ExitStack() as stack:
-            prepare(args.nice)
+            prepare()
             listeners = [stack.enter_context(listener) for listener in given_listeners()]
             listeners += [stack.enter_context(unix_listener(path, args.mode)) for path in args.unix]
             listeners += [stack.enter_context(tcp_listener(*place)) for place in args.tcp]
@@ -48,7 +47,7 @@ def main(words: Sequence[str]) -> int:
             if health_listener:
                 log(f"health on {name_of(health_listener.getsockname())}")
             start = partial(prefork.start, [args.program, *args.options, "--", args.table], library)
-            polling = partial(asyncio.SelectorEventLoop, selectors.PollSelector())  # epoll can lack room for one more
+            polling = partial(asyncio.SelectorEventLoop, selectors.PollSelector())  # epoll can lack a descriptor for one more
             runner = stack.enter_context(asyncio.Runner(loop_factory=polling))
             return runner.run(Service(args, start, listeners).run(health_listener))
     except OSError as error:
@@ -56,7 +55,7 @@ def main(words: Sequence[str]) -> int:
     return NO_SERVICE
 
 
-def prepare(nice: int) -> None:
+def prepare() -> None:
     """Standard files are open, or what is opened next would be taken for them; a log that nobody reads keeps no process
     from its end; signals wait to be handled, whatever was ignored; there are descriptors for connections."""
     while (descriptor := os.open(os.devnull, os.O_RDWR)) <= 2:
@@ -73,24 +72,22 @@ def prepare(nice: int) -> None:
     signal.pthread_sigmask(signal.SIG_SETMASK, SIGNALS)
     _, most = resource.getrlimit(resource.RLIMIT_NOFILE)
     resource.setrlimit(resource.RLIMIT_NOFILE, (most, most))
-    os.nice(nice)
 
 
 def parser_of_words() -> argparse.ArgumentParser:
     parser = argparse.ArgumentParser(prog="rtfilter-serve", description="Answers rtfilter's query lines over sockets.")
     add, seconds, octal = parser.add_argument, within(float, 0, LONGEST), partial(int, base=8)
-    add("table", metavar="TABLE", help="the CSV file of the boxes")
-    add("--unix", metavar="PATH", action="append", default=[], help="listen on a Unix socket")
-    add("--mode", type=within(octal, 0, 0o777), default=0o600, help="of the Unix socket, in octal (600)")
-    add("--tcp", metavar="[HOST:]PORT", type=host_and_port, action="append", default=[], help="listen on TCP (loopback)")
-    add("--health", metavar="[HOST:]PORT", type=host_and_port, help="answer /health and /metrics over HTTP there")
-    add("--connections", metavar="N", type=within(int, 1, MOST_CONNECTIONS), default=128, help="the most at a time (128)")
-    add("--silence", metavar="SECONDS", type=seconds, default=600.0, help="that a connection may be silent (600)")
-    add("--patience", metavar="SECONDS", type=seconds, default=60.0, help="that a reader may let replies wait (60)")
-    add("--drain", metavar="SECONDS", type=seconds, default=300.0, help="that connections keep the old table (300)")
-    add("--load-timeout", metavar="SECONDS", type=seconds, default=300.0, help="that a load may take (300)")
-    add("--nice", metavar="N", type=int, default=0, help="the niceness of all of it")
-    add("--program", default="rtfilter", help="the program, where it isn't on the path")
+    add("table", metavar="TABLE", help="CSV file of the boxes")
+    add("--unix", metavar="PATH", action="append", default=[], help="Unix socket to listen on; may be repeated")
+    add("--mode", type=within(octal, 0, 0o777), default=0o600, help="mode of Unix sockets, in octal (default 600)")
+    add("--tcp", metavar="[HOST:]PORT", type=host_and_port, action="append", default=[], help="TCP port to listen on (default host 127.0.0.1); may be repeated")
+    add("--health", metavar="[HOST:]PORT", type=host_and_port, help="HTTP port of /health and /metrics")
+    add("--connections", metavar="N", type=within(int, 1, MOST_CONNECTIONS), default=128, help="connections at a time (default 128)")
+    add("--silence", metavar="SECONDS", type=seconds, default=600.0, help="before a silent connection is closed, 0: never (default 600)")
+    add("--patience", metavar="SECONDS", type=seconds, default=60.0, help="before a client that reads nothing is disconnected, 0: never (default 60)")
+    add("--drain", metavar="SECONDS", type=seconds, default=300.0, help="that connections may keep the old table (default 300)")
+    add("--load-timeout", metavar="SECONDS", type=seconds, default=300.0, help="that a load may take (default 300)")
+    add("--program", default="rtfilter", help="the program rtfilter (default: the one on the path)")
     add("--version", action="version", version=f"%(prog)s {VERSION}", help="print the version")
     own: dict[str, Any] = {"dest": "options", "default": [], "help": "as the program's option"}
     add("-H", "--header", action="append_const", const="--header", **own)

@@ -21,19 +21,19 @@ import health
 import prefork
 from listening import peer_of
 
-PAUSE, BETWEEN_COMPLAINTS = 0.1, 10.0  # seconds before another try to accept, and before that is told again
+PAUSE, BETWEEN_COMPLAINTS = 0.1, 10.0  # seconds before another try to accept, and before that is logged again
 FIRST_PAUSE, LONGEST_PAUSE = 0.1, 10.0  # seconds before a program is started anew
 GRACE = 2.0  # seconds that a program has to begin what it was given
 MOST_PENDING = 4  # connections that a program may have to begin yet: others wait in the backlog
 RESERVED = 100  # descriptors that connections leave to loads and to health, or half of all where there are few
-LONGEST_ERROR = 1 << 12  # bytes of what a program tells of a load
+LONGEST_ERROR = 1 << 12  # bytes that a program writes of a load
 NO_SERVICE = 1
 SIGNALS = signal.SIGHUP, signal.SIGTERM, signal.SIGINT
 UNREADABLE = 4  # the status of a connection that couldn't be read, or was silent for too long
 NAME = "rtfilter-serve"  # how a line begins that is no reply
-MORE_BOXES = "too many entries", "; docs/SCALING.md says what holds more boxes"  # a fault of a table, and what helps
+MORE_BOXES = "too many entries", "; docs/scaling.md says what holds more boxes"  # a fault of a table, and what helps
 
-# Of a program, with descriptors for what it tells of its load and later.
+# Of a program, with descriptors for what it writes of its load and later.
 Start = Callable[[int, int, prefork.Common], prefork.Started]
 End = asyncio.Future[int | None]  # the status of a connection's process, or None where it wasn't begun
 
@@ -47,13 +47,13 @@ def log(text: str) -> None:
 
 
 def is_journal(descriptor: int) -> bool:
-    """Whether systemd's journal takes what is written, as JOURNAL_STREAM tells."""
+    """Whether systemd's journal takes what is written, by JOURNAL_STREAM."""
     status = os.fstat(descriptor)
     return os.environ.get("JOURNAL_STREAM") == f"{status.st_dev}:{status.st_ino}"
 
 
-def tell(connection: socket.socket, text: str) -> None:
-    """A line for who is connected, where it is taken without a wait: no reply begins so."""
+def send_line(connection: socket.socket, text: str) -> None:
+    """Sends a line to a client, if that needs no wait. No reply begins so."""
     with contextlib.suppress(OSError):
         connection.send(f"{NAME}: {text}\n".encode(), socket.MSG_DONTWAIT | socket.MSG_NOSIGNAL)
 
@@ -67,7 +67,7 @@ def handle_signals(loop: asyncio.AbstractEventLoop, handlers: Mapping[int, Calla
 
 
 def notify(text: str) -> None:
-    """Tells systemd, where that has started this (sd_notify)."""
+    """Reports to systemd, where that has started this (sd_notify)."""
     if path := os.environ.get("NOTIFY_SOCKET"):
         with contextlib.suppress(OSError), socket.socket(socket.AF_UNIX, socket.SOCK_DGRAM) as there:
             there.sendto(text.encode(), "\0" + path[1:] if path[0] == "@" else path)
@@ -79,13 +79,13 @@ class Table:
     def __init__(self, started: prefork.Started) -> None:
         self.process, self.control, self.first = started
         self.size, self.loaded = 0, 0.0  # boxes, and when
-        self.asked = End()  # the connection that asks for the size
-        self.pending = deque([self.asked])  # connections that it has yet to begin
+        self.first_end = End()  # the connection that asks for the size
+        self.pending = deque([self.first_end])  # connections that it has yet to begin
         self.running: dict[int, End] = {}  # connections by their processes
 
 
 class Service:
-    """Keeps a table behind sockets until it is told to end."""
+    """Keeps a table behind sockets until a signal ends it."""
 
     def __init__(self, args: Namespace, start: Start, listeners: list[socket.socket]) -> None:
         self._args, self._start, self._listeners = args, start, listeners
@@ -107,7 +107,7 @@ class Service:
         self._status = NO_SERVICE  # where the first table isn't loaded
 
     async def run(self, health_listener: socket.socket | None) -> int:
-        """Serves until it is told to end, and returns the exit status."""
+        """Serves until a signal ends it, and returns the exit status."""
         loop = asyncio.get_running_loop()
         loop.set_exception_handler(lambda _, it: log(f"rtfilter-serve: {it['message']}: {it.get('exception')}"))
         if health_listener:
@@ -123,7 +123,7 @@ class Service:
         await asyncio.wait([keeping])
         notify("STOPPING=1")
         self._table = None
-        self._state_changed()  # who connects now waits for another service, where systemd has the sockets
+        self._state_changed()  # clients wait for another service from now on, where systemd has the sockets
         await self._end_connections()
         await asyncio.gather(*map(self._end, self._tables))
         return 0 if keeping.cancelled() else self._status
@@ -170,7 +170,7 @@ class Service:
 
     async def _keep_loaded(self) -> None:
         """Loads the table, and anew when asked to, or where its program has ended, after a pause that grows unless that
-        has run for a while. Who asks for another table ends that. Where it can't be loaded, nothing changes."""
+        has run for a while. A request for another table ends that. Where it can't be loaded, nothing changes."""
         try:
             await self._load("ready")
         except OSError as error:
@@ -196,7 +196,7 @@ class Service:
             asyncio.get_running_loop().add_reader(table.control, self._read_reports, table)
             self._tables.append(table)
             with table.first, contextlib.suppress(BlockingIOError, ConnectionError):  # it hasn't answered, nor read
-                is_over, _ = await asyncio.wait([table.asked], timeout=self._args.load_timeout)
+                is_over, _ = await asyncio.wait([table.first_end], timeout=self._args.load_timeout)
                 reply = table.first.recv(100, socket.MSG_DONTWAIT)
             found = re.fullmatch(rb"ok 1 (\d+)\n", reply)
             if found and table in self._tables:  # it hasn't ended since
@@ -204,17 +204,16 @@ class Service:
                 self._counts["table_generation"] += 1
                 return self._switch_to(table, what)
             await self._end(table)
-            told = " ".join(os.pread(errors.fileno(), LONGEST_ERROR, 0).decode(errors="replace").split())
-        fault, help = MORE_BOXES
-        told += help * (fault in told)
+            fault = " ".join(os.pread(errors.fileno(), LONGEST_ERROR, 0).decode(errors="replace").split())
+        fault += MORE_BOXES[1] * (MORE_BOXES[0] in fault)
         self._counts["loads_failed_total"] += 1
         self._status = max(table.process.returncode, NO_SERVICE)
         if not is_over:
-            told = f"it wasn't loaded in {self._args.load_timeout:g} seconds"
-        elif status := table.asked.result():
+            fault = f"it wasn't loaded in {self._args.load_timeout:g} seconds"
+        elif status := table.first_end.result():
             why = os.strerror(-status) if status < 0 else f"status {os.waitstatus_to_exitcode(status)}"
-            told = f"it can't serve a connection: {why}"
-        raise ChildProcessError(told or f"the program has ended, with status {table.process.returncode}")
+            fault = f"it can't serve a connection: {why}"
+        raise ChildProcessError(fault or f"the program has ended, with status {table.process.returncode}")
 
     def _switch_to(self, table: Table, what: str) -> None:
         """Gives new connections to a table from now on. The one before keeps its own."""
@@ -283,7 +282,7 @@ class Service:
         return self._table if self._table and len(self._table.pending) < MOST_PENDING else None
 
     def _accept(self, listener: socket.socket) -> None:
-        """Accepts a connection. Lack of room is logged now and then, and it is tried again after a pause."""
+        """Accepts a connection. A lack of descriptors is logged now and then, and it is tried again after a pause."""
         loop = asyncio.get_running_loop()
         try:
             if self._counts["connections"] >= self._room:
@@ -299,7 +298,7 @@ class Service:
                 log(f"no connection accepted: {error.strerror}")
 
     async def _serve(self, connection: socket.socket, address: object) -> None:
-        """Serves a connection to its end. The socket stays open here until that is counted: whoever sees the end of one
+        """Serves a connection to its end. The socket stays open here until that is counted: a client that sees the end of one
         may open another."""
         begun = time.monotonic()
         self._counts.update(("connections", "connections_total"))
@@ -307,7 +306,7 @@ class Service:
         if self._counts["connections"] > self._args.connections:
             self._counts["connections_refused_total"] += 1
             how = f"refused, there are {self._args.connections} connections"
-            tell(connection, how)
+            send_line(connection, how)
         elif (status := await self._exit_status_of(connection)) < 0:
             self._counts["connections_not_begun_total"] += 1
             how = f"not begun: {os.strerror(-status)}"
@@ -317,7 +316,7 @@ class Service:
             self._counts[f'connections_ended_total{{{kind}="{code}"}}'] += 1
             how = f"{kind}={code} seconds={time.monotonic() - begun:.3f}"
             if kind == "status" and code == UNREADABLE and 0 < self._args.silence <= time.monotonic() - begun:
-                tell(connection, f"silent for {self._args.silence:g} seconds")
+                send_line(connection, f"silent for {self._args.silence:g} seconds")
         self._counts["connections"] -= 1
         with contextlib.suppress(OSError), connection:
             connection.shutdown(socket.SHUT_RDWR)  # a process that was killed may hold it for a moment yet
@@ -346,9 +345,11 @@ class Service:
             return signal.SIGKILL
         finally:
             self._open.discard(connection)
+            if not self._open:
+                self._state_changed()  # the service may wait for the last one, in order to end
 
     def _metrics(self) -> dict[str, float]:
-        counts = {**self._counts, "lines_answered_total": self._common.answered}
+        counts: dict[str, float] = {**self._counts, **self._common.metrics()}
         if self._table is None:
             return {"ready": 0, **counts}
         age = round(time.monotonic() - self._table.loaded, 3)

@@ -38,14 +38,14 @@ LONGEST = 300  # seconds of one command
 AT_ONCE = 2  # checks
 LINES, TABLES = 100_000, 20  # random lines in all, over so many tables
 INSTRUCTIONS = {  # of a query in C, by its kind (tests/library/queries.c), how many are asked, and the room for answers
-    ("window", 300, 64): 4445,
-    ("window on", 300, 64): 8901,
-    ("covers", 300, 64): 2800,
-    ("circle", 300, 64): 12673,
-    ("nearest", 300, 64): 9349,
-    ("polygon", 300, 64): 24421,
-    ("large window", 10, 10): 101376,
-    ("all near", 10, 10): 10297,
+    ("window", 300, 64): 4326,
+    ("window on", 300, 64): 8896,
+    ("covers", 300, 64): 2681,
+    ("circle", 300, 64): 12552,
+    ("nearest", 300, 64): 9218,
+    ("polygon", 300, 64): 24414,
+    ("large window", 10, 10): 101252,
+    ("all near", 10, 10): 10162,
 }
 MORE = 0.1  # so much more, or less, is refused
 

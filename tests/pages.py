@@ -1,14 +1,15 @@
 #!/usr/bin/env python3
-"""Runs the examples of the pages and compares what they show, byte for byte.
+"""Checks the pages: runs their examples and compares what they show, byte for byte, and follows their links.
 
 usage: tests/pages.py PROGRAM
 
-In README.md, docs/*.md and the manual page a console example is a command after `$ `, which may go on over lines, and
-what it prints. One is tried where each of its lines calls `rtfilter` or `cat`, in a folder with the files of examples/data/.
-A block that names tools behind `console` is a recipe, which tests/recipes tries. A row of a table with the columns `line`
+In README.md, the pages of docs/ and the manual page a console example is a command after `$ `, which may go on over lines, and
+what it prints. It is run in a folder with the files of examples/data/. A block that names a tool behind `console` is run by the
+tests of that tool. A row of a table with the columns `line`
 and `reply` is a run with that line alone over boxes.csv, or over the table that the head of the column names, perhaps with
-options in front of it. The logic that pages say all is proved with is that of `rt version`, where `rt` is there. The last
-line is `N passed, M failed`.
+options in front of it. The logic that pages say all is proved with is that of `rt version`, where `rt` is there. Each link of a
+page leads to a file of the repository, and to a heading of it; each page of docs/ is reached from README.md by links; each
+question of questions.md has an answer under a heading that is there. The last line is `N passed, M failed`.
 """
 
 import os
@@ -22,9 +23,10 @@ from pathlib import Path
 ROOT = Path(__file__).resolve().parent.parent
 
 
-def sessions(text):
-    """The commands of console examples, each with what it prints."""
-    for block in re.findall(r"^```console\n(.*?)^```$", text, re.MULTILINE | re.DOTALL):
+def sessions(text, tool=None):
+    """The commands of console examples, or of those that name a tool, each with what it prints."""
+    head = "```console" if tool is None else f"```console {tool}"
+    for block in re.findall(rf"^{head}\n(.*?)^```$", text, re.MULTILINE | re.DOTALL):
         for example in re.split(r"^\$ ", block, flags=re.MULTILINE)[1:]:
             command, _, shown = example.partition("\n")
             yield command, shown
@@ -62,7 +64,7 @@ def table_rows(text):
 
 def examples():
     """Each example: the page, the command and what it is to print."""
-    for page in [ROOT / "README.md", *sorted((ROOT / "docs").glob("*.md"))]:
+    for page in [ROOT / "README.md", *sorted((ROOT / "docs").rglob("*.md"))]:
         text = page.read_text(encoding="utf-8")
         yield from ((page, *it) for it in [*sessions(text), *table_rows(text)])
     manual = ROOT / "docs/rtfilter.1"
@@ -77,6 +79,53 @@ def printed(command, folder, path):
     return done.stdout.decode(errors="replace")
 
 
+def all_pages():
+    """Each page in Markdown, by its path."""
+    return {it: it.read_text(encoding="utf-8") for it in sorted(ROOT.rglob("*.md")) if "/." not in str(it) and "/build/" not in str(it)}
+
+
+def links(page, text):
+    """The files that a page links to, each with the heading that is named, or an empty one."""
+    for target in re.findall(r"\]\(([^)\s]+)\)", re.sub(r"^```.*?^```$", "", text, flags=re.MULTILINE | re.DOTALL)):
+        name, _, heading = target.partition("#")
+        if ":" not in name:
+            yield (page.parent / name).resolve() if name else page, heading
+
+
+def headings(text):
+    """The anchors of a page's headings."""
+    lines = re.findall(r"^#+ (.*)$", re.sub(r"^```.*?^```$", "", text, flags=re.MULTILINE | re.DOTALL), re.MULTILINE)
+    return {re.sub(r"[^\w\- ]", "", line.lower()).replace(" ", "-") for line in lines}
+
+
+def broken_links(pages):
+    """The links that lead nowhere."""
+    for page, text in pages.items():
+        for target, heading in links(page, text):
+            if not target.exists() or (heading and heading not in headings(pages.get(target, ""))):
+                yield f"{page.relative_to(ROOT)}: {target.relative_to(ROOT) if target.is_relative_to(ROOT) else target}#{heading}"
+
+
+def unreached(pages):
+    """The pages of docs/ to which no way leads from README.md."""
+    found, next_ones = set(), [ROOT / "README.md"]
+    while next_ones:
+        page = next_ones.pop()
+        if page in pages and page not in found:
+            found.add(page)
+            next_ones += [target for target, _ in links(page, pages[page])]
+    return [str(it.relative_to(ROOT)) for it in pages if it.is_relative_to(ROOT / "docs") and it not in found]
+
+
+def unanswered(pages):
+    """The questions of tests/questions.md whose page or heading isn't there."""
+    rows = re.findall(r"^\| [a-z]+-\d+ \| (.*?) \| ([^ |]+) \|$", pages[ROOT / "tests/questions.md"], re.MULTILINE)
+    for question, place in rows or [("no question is listed", "")]:
+        name, _, heading = place.partition("#")
+        if ROOT / name not in pages or (heading and heading not in headings(pages[ROOT / name])):
+            yield f"{question}: {place}"
+
+
 def logics(text):
     """The logics of the toolchain that a text names."""
     return set(re.findall(r"\blogic ([0-9a-f]{16})\b", text))
@@ -88,7 +137,7 @@ def names_of_the_logic():
         print("skipped: the logic that the pages name, since rt isn't on the path")
         return
     own = logics(subprocess.run(["rt", "version"], capture_output=True, text=True, timeout=60).stdout)
-    for page in [ROOT / "README.md", ROOT / "docs/PROVED.md"]:
+    for page in [ROOT / "README.md", ROOT / "docs/internals/proved.md"]:
         yield page, "the logic of rt version", logics(page.read_text(encoding="utf-8")), own
 
 
@@ -100,7 +149,10 @@ def main():
         path.mkdir()
         (path / "rtfilter").symlink_to(Path(sys.argv[1]).resolve())
         outcomes = ((page, command, shown, printed(command, folder, path)) for page, command, shown in examples())
-        for page, command, shown, found in [*outcomes, *names_of_the_logic()]:
+        pages = all_pages()
+        checks = ("links that lead nowhere", broken_links), ("pages that no link leads to", unreached), ("questions", unanswered)
+        by_looking = ((ROOT / "README.md", words, [], [*check(pages)]) for words, check in checks)
+        for page, command, shown, found in [*outcomes, *names_of_the_logic(), *by_looking]:
             if found == shown:
                 passed += 1
             else:

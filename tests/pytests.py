@@ -3,7 +3,7 @@
 
 usage: tests/pytests.py PROGRAM [--archive ARCHIVE] [--need-all] [--only NAME]..
 
-Each folder of PARTS, or those that are named, is tried by pytest in a process of its own, two at a time, with a copy of the
+Each part of PARTS, or those that are named, is tried by pytest in a process of its own, two at a time, with a copy of the
 program, beside what a service loads into it where there is a C compiler. ARCHIVE is the library's proved archive, of which
 librtfilter and the extension of the Python package are made; without it that of build/ is used. A test that needs what isn't
 installed is skipped and named; with --need-all it has failed. The last line is `N passed, M failed`.
@@ -22,16 +22,17 @@ from pathlib import Path
 sys.dont_write_bytecode = True
 ROOT = Path(__file__).resolve().parent.parent
 PARTS = {  # those that take longest first
-    "service": "service/tests",
-    "python": "python/tests",
-    "map": "examples/tiles/tests",
-    "fence": "examples/geofence/tests",
-    "roads": "examples/roads/tests",
-    "languages": "examples/languages/tests",
-    "package": "packaging/tests",
-    "recipes": "tests/recipes",
-    "gate": "tests/gate",
+    "service": ["service/tests"],
+    "python": ["python/tests", "--ignore=python/tests/fence", "--ignore=python/tests/tiles"],
+    "map": ["python/tests/tiles"],
+    "fence": ["python/tests/fence"],
+    "roads": ["examples/tests"],
+    "languages": ["examples/languages/tests"],
+    "package": ["packaging/tests"],
+    "recipes": ["tests/recipes"],
+    "gate": ["tests/gate"],
 }
+PATHS = "tests", "python", "service"  # what tests import from
 PREFORK = "build/rtfilter-prefork.so"
 PYTHON = "/usr/bin/python3"  # that of Debian, with its packages
 AT_ONCE = 2  # parts: some measure how long a call takes
@@ -68,7 +69,7 @@ def libraries(archive, parts, folder):
 def tried(part, environment, folder, need_all):
     """Tries a part: how many tests have passed and failed, and what is to be shown."""
     report = Path(folder, f"{part}.xml")
-    words = [PYTHON, "-B", "-m", "pytest", "-q", "-p", "pytest_limit", "-p", "no:cacheprovider", f"--junitxml={report}", PARTS[part]]
+    words = [PYTHON, "-B", "-m", "pytest", "-q", "-p", "pytest_limit", "-p", "no:cacheprovider", f"--junitxml={report}", *PARTS[part]]
     # (into a file: a pipe would end no sooner than a process that a test has left behind)
     with tempfile.TemporaryFile("w+", encoding="utf-8", errors="replace") as output:
         try:
@@ -109,7 +110,7 @@ def main():
     parts = args.only or [*PARTS]
     with tempfile.TemporaryDirectory(prefix="rtfilter-") as folder:
         given = {"RTFILTER_PROGRAM": copied(args.program, folder), **libraries(args.archive, parts, folder)}
-        environment = {**os.environ, **given, "PYTHONPATH": str(ROOT / "tests"), "PYTHONDONTWRITEBYTECODE": "1"}
+        environment = {**os.environ, **given, "PYTHONPATH": ":".join(str(ROOT / it) for it in PATHS), "PYTHONDONTWRITEBYTECODE": "1"}
         with ThreadPoolExecutor(AT_ONCE) as threads:
             passed = failed = 0
             for good, bad, text in threads.map(lambda it: tried(it, environment, folder, args.need_all), parts):

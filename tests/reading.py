@@ -3,7 +3,7 @@
 
 usage: tests/reading.py [-H|--header] [--fanout M] [--max-entries N] TABLE [QUERIES]
 
-Nothing in here is of the program's code or of its definitions. The table is read as docs/table-format.md says, a query
+Nothing in here is of the program's code or of its definitions. The table is read as docs/tables.md says, a query
 as docs/query-language.md does, and answers come from a look at every box. A box is its `min_x, max_x, min_y, max_y`,
 and in a table its layer behind them. The nodes that a `cost` line asks about are counted by a search of the tree that
 `search.py` packs.

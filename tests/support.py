@@ -1,9 +1,34 @@
-"""What tests of packages, recipes and the gate share: where things are."""
+"""What tests around the program share: where things are, and the examples of pages."""
 
 import os
+import subprocess
+import sys
+from collections.abc import Iterator
 from pathlib import Path
+
+import pages
 
 ROOT = Path(__file__).resolve().parent.parent
 PACKAGE = ROOT / "python"
 DATA = ROOT / "examples/data"
-PROGRAM = os.environ["RTFILTER_PROGRAM"]
+PROGRAM = os.environ.get("RTFILTER_PROGRAM", str(ROOT / "build/rtfilter"))
+
+LONGEST = 120.0  # seconds that anything may take, on a busy machine
+
+
+def environment() -> dict[str, str]:
+    """That of a command over the package of the checkout."""
+    return {**os.environ, "PYTHONPATH": str(PACKAGE), "PYTHONDONTWRITEBYTECODE": "1"}
+
+
+def printed(page: Path, tool: str, path: str = "") -> Iterator[tuple[str, str, str]]:
+    """The examples of a page that name a tool: each command, what the page shows, and what it prints in a checkout. `path` comes
+    first in PATH."""
+    for command, shown in pages.sessions(page.read_text(encoding="utf-8"), tool):
+        # (this Python, and not another one that comes first in PATH)
+        found = {"PATH": os.pathsep.join([*([path] if path else []), os.path.dirname(sys.executable), os.environ["PATH"]])}
+        done = subprocess.run(
+            ["bash", "-c", command], cwd=ROOT, env={**environment(), **found}, stdin=subprocess.DEVNULL, stdout=subprocess.PIPE,
+            stderr=subprocess.STDOUT, text=True, timeout=LONGEST,
+        )  # fmt: skip
+        yield command, shown, done.stdout

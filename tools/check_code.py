@@ -110,7 +110,7 @@ def write_crate(blocks, folder):
 
 
 def main():
-    pages = sorted((ROOT / "docs").glob("*.md"))
+    pages = sorted((ROOT / "docs").rglob("*.md"))
     blocks = [block for page in pages for block in blocks_of(page) if block.is_proved]
     if len(sys.argv) > 1:
         write_crate(blocks, pathlib.Path(sys.argv[1]))

@@ -1,7 +1,7 @@
 #!/usr/bin/env python3
 """Counts the lines and the functions of each crate, and the calls from `main` to the line that decides about an answer.
 
-The calls are those that CONTRIBUTING.md tells under "The way of a line", crate by crate, each called by the one before;
+The calls are those that CONTRIBUTING.md tells under "Call path of a query line", crate by crate, each called by the one before;
 a file in brackets has the calls before it. So are the calls of the second table, from the node's entries to the comparison
 of a box, and those of the third, from an export of the library to the search. Definitions that have to be believed are counted
 by tools/definitions.py.
@@ -37,7 +37,7 @@ def sources_of(crate):
 def ways_of_a_line():
     """The calls of each table in turn."""
     page = (ROOT / "CONTRIBUTING.md").read_text(encoding="utf-8")
-    section = page.partition("\n## The way of a line\n")[2].partition("\n## ")[0]
+    section = page.partition("\n## Call path of a query line\n")[2].partition("\n## ")[0]
     return [list(calls_of(table)) for table in section.split("\n| crate | calls |\n")[1:]]
 
 
@@ -78,7 +78,7 @@ def long_lines(path):
 
 def main():
     parser = argparse.ArgumentParser(description=__doc__.splitlines()[0])
-    parser.add_argument("--check", action="store_true", help="fail where the way of a line isn't so, or a clause is too wide")
+    parser.add_argument("--check", action="store_true", help="fail where the call path of a query line isn't so, or a clause is too wide")
     check = parser.parse_args().check
     ways = ways_of_a_line()
     if not check:

@@ -15,7 +15,7 @@ those that these name, and so on. A line counts unless it is blank, a comment, a
 - Lemmas, in `specs/Lemmas`, are proved: nobody has to believe them. Types that the code declares are read there.
 
 Run from anywhere: `python3 tools/definitions.py`. `--names` tells the definitions one by one. `--check` fails where
-there are more lines than MOST_LINES, or where docs/DESIGN.md names other files; its last line is `N passed, M failed`.
+there are more lines than MOST_LINES, or where docs/internals/design.md names other files; its last line is `N passed, M failed`.
 """
 
 import argparse
@@ -154,8 +154,8 @@ def reached_from(clauses, passed_over=frozenset()):
 
 
 def files_on_the_map():
-    """The files that docs/DESIGN.md names as those of the definitions, as crate and module."""
-    section = (ROOT / "docs/DESIGN.md").read_text(encoding="utf-8").split("## The definitions, in reading order")[1]
+    """The files that docs/internals/design.md names as those of the definitions, as crate and module."""
+    section = (ROOT / "docs/internals/design.md").read_text(encoding="utf-8").split("## The definitions, in reading order")[1]
     rows = re.findall(r"^\| `(\w+)/specs/(.*?) \|", section.split("\n## ")[0], re.MULTILINE)
     return {(crate, module) for crate, files in rows for module in re.findall(r"(\w+)\.antt`", files)}
 

@@ -1,5 +1,5 @@
 #!/usr/bin/env python3
-"""Draws the pictures of docs/query-language.md and of docs/DESIGN.md: docs/pictures/*.svg.
+"""Draws the pictures of README.md, of the query language, of the concepts and of the design: docs/pictures/*.svg.
 
 usage: tools/pictures.py [--check]
 
@@ -26,8 +26,9 @@ import packing
 import reading
 import search
 
-# Colours that can be told from a white page and from a dark one. All text but labels stands on a filled shape.
-LINE, LABEL, WORD, NUMBER, RULE = "#8b949e", "#768390", "#1f6feb", "#8250df", "#57606a"
+# Colours that can be seen on a white page and on a dark one. All text but labels is on a filled shape; labels have a colour for each.
+LINE, WORD, NUMBER, RULE = "#8b949e", "#1f6feb", "#8250df", "#57606a"
+LABELS = "<style>.label{fill:#57606a}@media(prefers-color-scheme:dark){.label{fill:#b1bac4}}</style>"
 REGION, ACCEPTED, REFUSED = "#1f6feb", "#2da44e", "#8b949e"
 MONO = "ui-monospace, SFMono-Regular, Menlo, Consolas, 'DejaVu Sans Mono', monospace"
 SANS = "system-ui, 'Segoe UI', Helvetica, Arial, 'DejaVu Sans', sans-serif"
@@ -39,6 +40,7 @@ def svg(width, height, title, parts):
         f'<svg xmlns="http://www.w3.org/2000/svg" width="{width:g}" height="{height:g}"'
         f' viewBox="0 0 {width:g} {height:g}" role="img">',
         f"<title>{escape(title)}</title>",
+        *([LABELS] if any('class="label"' in it for it in parts) else []),
         *parts,
         "</svg>\n",
     ])
@@ -243,7 +245,7 @@ class Scene:
 
     def label(self, x, y, text):
         x, y = self.place(x, y)
-        look = f'text-anchor="middle" font-size="13" font-family="{SANS}" fill="{LABEL}"'
+        look = f'class="label" text-anchor="middle" font-size="13" font-family="{SANS}"'
         return f'<text x="{x:g}" y="{y + 4.5:g}" {look}>{text}</text>'
 
     def picture(self, title, parts):
@@ -343,6 +345,53 @@ def on_layer():
     parts += outline("window", reading.Words(asked.encode()), scene)
     parts += [scene.label((box[0] + box[1]) / 2, (box[2] + box[3]) / 2, box[4]) for box in boxes]
     return scene.picture(f"Boxes that {asked} {layer} accepts are drawn solid, the others dashed", parts)
+
+
+def text(x, y, words, font=SANS, anchor="start"):
+    """A line of text beside a drawing, at a place in pixels."""
+    look = f'class="label" text-anchor="{anchor}" font-size="15" font-family="{font}"'
+    return f'<text x="{x:g}" y="{y:g}" xml:space="preserve" {look}>{escape(words)}</text>'
+
+
+def front():
+    """A window over the boxes of examples/data/boxes.csv, the query and its reply."""
+    scene = Scene(-7, 32, -7, 17)
+    asked, table = "find window 8 13 3 8", (ROOT / "examples/data/boxes.csv").read_bytes()
+    window = [*map(int, asked.split()[2:])]
+    boxes = reading.boxes(table, False, 100)
+    met = {id for id, box in boxes.items() if reading.meet(box[:4], window)}
+    parts = []
+    for id, (left, right, bottom, top, _) in boxes.items():
+        grown = 0.3 if left == right else 0  # so that a point can be seen
+        parts.append(scene.box((left - grown, right + grown, bottom - grown, top + grown), YES if id in met else NO))
+        parts.append(scene.label(left + 1.4, top - 1.4, id))
+    parts.append(scene.box(window, AREA))
+    lines = [f"$ echo '{asked}' | rtfilter boxes.csv", *(f"{id} 0" for id in sorted(met)), f"ok 1 {len(met)}"]
+    parts += [text(390, 90 + 26 * at, line, MONO) for at, line in enumerate(lines)]
+    return svg(860, STEP * 24 + 24, "A window that overlaps two of five boxes, the query and its reply", parts)
+
+
+def sides():
+    """A box with the names of its sides, and the order in which they are written."""
+    scene = Scene(0, 30, 0, 18)
+    parts = [scene.box((7, 23, 4, 14), YES)]
+    parts += [scene.label(3.4, 9, "min_x"), scene.label(26.6, 9, "max_x"), scene.label(15, 2.4, "min_y"), scene.label(15, 15.6, "max_y")]
+    rows = ("rtfilter, SQLite", "min_x, max_x, min_y, max_y"), ("shapely, GeoJSON, PostGIS", "min_x, min_y, max_x, max_y")
+    for at, (who, order) in enumerate(rows):
+        parts += [text(310, 60 + 70 * at, who), text(310, 84 + 70 * at, order, MONO)]
+    return svg(590, STEP * 18 + 24, "A box with its four sides, and two orders in which they are written", parts)
+
+
+def scores():
+    """The scores of a box: the square of its distance from a point, and its area."""
+    scene = Scene(0, 56, 0, 20)
+    point, box = (3, 4), (9, 21, 12, 17)
+    x, y = scene.place(*point)
+    parts = [scene.box(box, YES), scene.line(point, (9, 12), BEYOND), f'<circle cx="{x}" cy="{y}" r="3.5" fill="{REGION}"/>']
+    parts += [scene.label(9, 2.4, "(3, 4)"), scene.label(12, 7.4, "distance 10"), text(scene.place(2, 0)[0], STEP * 20 + 24, "near 3 4: score 6² + 8² = 100")]
+    parts += [scene.box((36, 48, 9, 14), YES), scene.label(42, 7.4, "12"), scene.label(50, 11.5, "5")]
+    parts.append(text(scene.place(33, 0)[0], STEP * 20 + 24, "smallest: score 12 · 5 = 60"))
+    return svg(STEP * 56 + 24, STEP * 20 + 44, "The score of a box: a squared distance, or an area", parts)
 
 
 def example():
@@ -494,6 +543,9 @@ def leaf_nodes(scene, shift, entries):
 
 def pictures():
     """Each picture by the name of its file."""
+    yield "front.svg", front()
+    yield "sides.svg", sides()
+    yield "scores.svg", scores()
     yield "boxes.svg", example()
     yield "layers.svg", on_layer()
     yield "packed.svg", packed_points()

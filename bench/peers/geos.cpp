@@ -1,4 +1,4 @@
-// GEOS's STR-packed tree with 16 children a node, which the C++ header names as unstable. It has no search for the nearest:
+// GEOS's STR-packed tree with 16 children a node, which the C++ header names as unstable. It finds one nearest item, not k:
 // a window grows until enough boxes lie within its half width.
 #include "peer.hpp"
 #include <cmath>

@@ -1,11 +1,9 @@
 """How sphinx makes the reference of the Python package, from its docstrings."""
 
-import sys
 import tomllib
 from pathlib import Path
 
 PACKAGE = Path(__file__).resolve().parents[2] / "python"
-sys.path.insert(0, str(PACKAGE))
 
 project = "rtfilter"
 release = tomllib.loads((PACKAGE / "pyproject.toml").read_text(encoding="utf-8"))["project"]["version"]

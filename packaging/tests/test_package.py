@@ -47,12 +47,15 @@ FILES = {  # beside each package's own documents
         **MODULES,
         "usr/share/man/man1/rtfilter-serve.1.gz": 0o644,
     },
+    "rtfilter-tools": {
+        **{f"usr/bin/rtfilter-{it}": 0o755 for it in ("fence", "tiles")},
+        **{f"usr/share/bash-completion/completions/rtfilter-{it}": 0o644 for it in ("fence", "tiles")},
+        **{f"usr/share/man/man1/rtfilter-{it}.1.gz": 0o644 for it in ("fence", "tiles")},
+    },
 }
-# The programs of python3-rtfilter, each with its page beside it.
-PROGRAMS = (
-    "geofence/fence.py", "geofence/measure.py", "languages/ask.sh", "roads/measure.py", "roads/snap.py", "tiles/make_map.py",
-    "tiles/measure.py", "tiles/serve.py",
-)
+COMMANDS = {"rtfilter": "rtfilter", "rtfilter-serve": "rtfilter-service", "rtfilter-fence": "rtfilter-tools", "rtfilter-tiles": "rtfilter-tools"}
+SHARED = "usr/share/rtfilter/"  # the pages, and what they name
+SCRIPTS = {"rtfilter": {f"{SHARED}examples/languages/ask.sh"}, "python3-rtfilter": {f"{SHARED}examples/roads.py"}}
 # lintian may say nothing else than that the debug symbols are names alone: the toolchain writes no line numbers.
 FINE = ("debug-file-with-no-debug-symbols",)
 UNITS = {f"rtfilter{it}" for it in (".service", ".socket", "@.service", "@.socket")}
@@ -95,13 +98,13 @@ def wants(test: unittest.TestCase, *tools: str) -> None:
 class Versions(unittest.TestCase):
     def test_all_name_the_same(self) -> None:
         project = tomllib.loads((PACKAGE / "pyproject.toml").read_text(encoding="utf-8"))["project"]
-        manuals = [found(r'^\.TH \S+ 1 \S+ "rtfilter (\S+)"', (ROOT / f"docs/{it}.1").read_text())[1] for it in ("rtfilter", "rtfilter-serve")]
+        manuals = [found(r'^\.TH \S+ 1 \S+ "rtfilter (\S+)"', (ROOT / f"docs/{it}.1").read_text())[1] for it in COMMANDS]
         changes = found(r"(?m)^## (\S+), ", (ROOT / "CHANGELOG.md").read_text(encoding="utf-8"))[1]
         served = run(sys.executable, "-B", ROOT / "service/serve.py", "--version").split()[-1]
         header = ".".join(re.findall(r"#define RTFILTER_VERSION_[MP]\w+ (\d+)", (ROOT / "include/rtfilter.h").read_text()))
         crate = tomllib.loads((ROOT / "bindings/rust/Cargo.toml").read_text(encoding="utf-8"))["package"]["version"]
         named = [project["version"], *manuals, changes, served, header, crate]
-        self.assertEqual(named, [VERSION] * 7)
+        self.assertEqual(named, [VERSION] * 9)
 
 
 class Packages(unittest.TestCase):
@@ -130,8 +133,8 @@ class Packages(unittest.TestCase):
             library = shutil.copyfile(LIBRARY, Path(folder, "library"))
             made = run(sys.executable, MAKE, program, library, folder, cwd=folder, umask=0o077).split()
             names = ("librtfilter-dev", "librtfilter0-dbgsym", "librtfilter0", "python3-rtfilter-dbgsym", "python3-rtfilter", "rtfilter-dbgsym",
-                     "rtfilter-service", "rtfilter")  # fmt: skip
-            kinds = ("amd64", "amd64", "amd64", "amd64", "amd64", "amd64", "all", "amd64")
+                     "rtfilter-service", "rtfilter-tools", "rtfilter")  # fmt: skip
+            kinds = ("amd64", "amd64", "amd64", "amd64", "amd64", "amd64", "all", "all", "amd64")
             self.assertEqual([Path(name).name for name in made], [f"{it}_{VERSION}-1_{kind}.deb" for it, kind in zip(names, kinds)])
             for name in made:
                 self.assertEqual(Path(name).read_bytes(), (self.room / Path(name).name).read_bytes(), name)
@@ -145,27 +148,29 @@ class Packages(unittest.TestCase):
         for name, files in FILES.items():
             documents = {it: mode for it, mode in self.held(name).items() if it.startswith("usr/share/doc/")}
             units = {it: mode for it, mode in self.held(name).items() if "systemd" in it}
-            self.assertEqual(self.held(name), files | documents | units)
+            shared = {it: mode for it, mode in self.held(name).items() if it.startswith(SHARED)}
+            self.assertEqual(self.held(name), files | documents | units | shared)
+            self.assertEqual({it for it, mode in shared.items() if mode == 0o755}, SCRIPTS.get(name, set()))
             self.assertEqual({Path(it).name for it in units}, UNITS if "service" in name else set())
             self.assertLessEqual({f"usr/share/doc/{name}/{it}" for it in ("changelog.Debian.gz", "copyright")}, documents.keys())
-        modules = {it.name for it in (PACKAGE / "rtfilter").iterdir() if it.is_file()} | {"_engine.abi3.so"}
-        held = {it for it in self.held("python3-rtfilter") if "dist-packages/rtfilter/" in it}
-        self.assertEqual({Path(it).name for it in held}, modules)
+        sources = [it for it in (PACKAGE / "rtfilter").rglob("*") if it.is_file() and it.suffix != ".pyc"]
+        modules = {it.relative_to(PACKAGE).as_posix() for it in sources} | {"rtfilter/_engine.abi3.so"}
+        held = [it.partition("dist-packages/")[2] for it in self.held("python3-rtfilter")]
+        self.assertEqual({it for it in held if it.startswith("rtfilter/")}, modules)
         about = run("dpkg-deb", "--field", self.packages["python3-rtfilter"], "Depends")
         self.assertRegex(about, r"librtfilter0 \(>= [\d.]+\)")
         self.assertRegex(about, r"python3 \(>= 3\.11\)")
-        programs = {f"usr/share/rtfilter/examples/{it}" for it in PROGRAMS}
-        self.assertEqual({it for it, mode in self.held("python3-rtfilter").items() if mode == 0o755}, programs)
+        self.assertEqual({it for it, mode in self.held("python3-rtfilter").items() if mode == 0o755}, SCRIPTS["python3-rtfilter"])
         for package in self.packages.values():
             listed = run("dpkg-deb", "--contents", package)
             self.assertEqual({line.split()[1] for line in listed.splitlines()}, {"root/root"})
         tree = self.room / "rtfilter"
         self.assertIn("no symbols", run("objdump", "--syms", tree / "usr/bin/rtfilter"))
-        for command in ("rtfilter", "rtfilter-serve"):
-            package = self.room / (command if command == "rtfilter" else "rtfilter-service")
-            manual = gzip.decompress((package / f"usr/share/man/man1/{command}.1.gz").read_bytes())
+        for command, package in COMMANDS.items():
+            manual = gzip.decompress((self.room / package / f"usr/share/man/man1/{command}.1.gz").read_bytes())
             self.assertEqual(manual, (ROOT / f"docs/{command}.1").read_bytes())
-        self.assertIn(".BR rtfilter-serve (1)", (ROOT / "docs/rtfilter.1").read_text())
+            for other in COMMANDS.keys() - {command}:
+                self.assertIn(f".BR {other} (1)", manual.decode())
         changes = gzip.decompress((tree / "usr/share/doc/rtfilter/changelog.Debian.gz").read_bytes()).decode()
         self.assertTrue(changes.startswith(f"rtfilter ({VERSION}-1) "), changes)
 
@@ -254,14 +259,14 @@ class Packages(unittest.TestCase):
                 data = Path(system, "var/lib/dpkg")
                 make_system(Path(system))
                 before = {it for it in Path(system).rglob("*") if it.is_file()}
-                (data / "status").write_text("\n".join(THERE.format(*it) for it in (("libc6", library), ("python3", "3.11.2-1"))))
+                (data / "status").write_text("\n".join(THERE.format(*it) for it in (("libc6", library), ("python3", "3.11.2-1"), ("python3-numpy", "1:1.24.2-1"))))
                 dpkg = ["env", f"PATH={path}", "dpkg", f"--root={system}", f"--log={os.devnull}"]
                 if not is_enough:
                     with self.assertRaisesRegex(AssertionError, "dependency problems"):
                         run(*dpkg, "--install", self.packages["rtfilter"])
                     continue
-                both = self.packages["rtfilter"], self.packages["librtfilter0"], self.packages["python3-rtfilter"]
-                run(*dpkg, "--install", *both)
+                names = "rtfilter", "librtfilter0", "python3-rtfilter", "rtfilter-tools"
+                run(*dpkg, "--install", *(self.packages[it] for it in names))
                 told = run(Path(system, "usr/bin/rtfilter"), DATA / "boxes.csv", DATA / "queries.txt")
                 self.assertEqual(told, (DATA / "answers.txt").read_text())
                 asked = f"import rtfilter; print(rtfilter.Rtfilter('{DATA / 'boxes.csv'}').count(rtfilter.All()))"
@@ -269,14 +274,12 @@ class Packages(unittest.TestCase):
                 self.assertEqual(run("/usr/bin/python3", "-B", "-c", asked, env=words), "5\n")
                 words["PYTHONDONTWRITEBYTECODE"] = "1"
                 examples = Path(system, "usr/share/rtfilter/examples")
-                for name, told_of in (("geofence/fence.py", "enter"), ("roads/snap.py", "nearest")):
-                    lines = "it,16.38,48.19,1\n" if "fence" in name else "it,16.35,48.2105\n"
-                    file = examples / "data" / ("zones.geojson" if "fence" in name else "roads.geojson")
-                    self.assertIn(f'"{told_of}"', run("/usr/bin/python3", examples / name, file, env=words, input=lines))
-                run("/usr/bin/python3", examples / "tiles/make_map.py", f"{system}/map", "--boxes", "1000", env=words)
+                zones, lines = examples / "data/zones.geojson", "it,16.38,48.19,1\n"
+                self.assertIn('"enter"', run("/usr/bin/python3", Path(system, "usr/bin/rtfilter-fence"), zones, env=words, input=lines))
+                run("/usr/bin/python3", "-m", "rtfilter.tiles.make_map", f"{system}/map", "--boxes", "1000", env=words)
                 shutil.rmtree(f"{system}/map")
-                run(*dpkg, "--verify", "rtfilter", "python3-rtfilter", "librtfilter0")
-                run(*dpkg, "--purge", "rtfilter", "python3-rtfilter", "librtfilter0")
+                run(*dpkg, "--verify", *names)
+                run(*dpkg, "--purge", *names)
                 left = {path for path in Path(system).rglob("*") if path.is_file() and data not in path.parents}
                 self.assertEqual(left - before, {Path(system, "log")})
 
@@ -341,9 +344,16 @@ class Packages(unittest.TestCase):
             logged = Path(folder, "log").read_text().splitlines()
         return [line.removeprefix("systemctl ") for line in logged if " is-" not in line]
 
+    def folder_of_pages(self) -> Path:
+        """What the program's package and the Python package have in common."""
+        share = Path(self.enterContext(tempfile.TemporaryDirectory()), "share")
+        for name in SCRIPTS:
+            shutil.copytree(self.room / name / SHARED, share, dirs_exist_ok=True)
+        return share
+
     def test_links_of_pages(self) -> None:
         """Each leads to a page that is installed, and to a heading of it."""
-        share = self.room / "python3-rtfilter/usr/share/rtfilter"
+        share = self.folder_of_pages()
         pages = [*share.rglob("*.md")]
         self.assertIn(share / "README.md", pages)
         for page in pages:
@@ -391,8 +401,7 @@ class Completion(unittest.TestCase):
         start = Path(folder, ".start")
         start.write_text(
             f"PS1='{PROMPT}'; bind 'set enable-bracketed-paste off'; bind 'set bell-style none'; unset HISTFILE\n"
-            f". '{ROOT}/packaging/rtfilter.bash'; . '{ROOT}/packaging/rtfilter-serve.bash'\n"
-            "rtfilter() { printf '<%s>' \"$@\"; echo; }; rtfilter-serve() { rtfilter \"$@\"; }\n"
+            + "".join(f". '{ROOT}/packaging/{it}.bash'; {it}() {{ printf '<%s>' \"$@\"; echo; }}\n" for it in COMMANDS)
         )
         child, self.terminal = pty.fork()
         if child == 0:
@@ -427,6 +436,8 @@ class Completion(unittest.TestCase):
             ("rtfilter -- towns.csv -o\t", "<--><towns.csv><-odd>"),
             ("rtfilter towns.csv m\t", "<towns.csv><my table>"),
             ("rtfilter-serve --con\t9 --fanout 1\t --drain=5 to\t", "<--connections><9><--fanout><16><--drain=5><towns.csv>"),
+            ("rtfilter-fence --res\tmy\t --first-line \t3 to\t", "<--resume><my table><--first-line><3><towns.csv>"),
+            ("rtfilter-tiles --na\tto\t --reu\t --port=8 to\t", "<--names><towns.csv><--reuse-port><--port=8><towns.csv>"),
             ("rtfilter-serve --unix my\t --patience \tto", "<--unix><my table><--patience><to>"),
         ):
             self.assertEqual(self.words(keys), words, keys)

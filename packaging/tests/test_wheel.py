@@ -81,6 +81,8 @@ class Wheel(unittest.TestCase):
         done = subprocess.run([binaries / "rtfilter", DATA / "boxes.csv"], input="count all\n", capture_output=True, text=True, env=plain)
         self.assertEqual((done.returncode, done.stdout, done.stderr), (0, "ok 1 5\n", ""))
         self.assertTrue((binaries.parent / "lib/rtfilter/rtfilter-prefork.so").exists())
+        for command in ("rtfilter-fence", "rtfilter-tiles"):
+            self.assertTrue(os.access(binaries / command, os.X_OK))
         self.pip(binaries, "uninstall", "--yes", "rtfilter")
         left = [path for path in (self.folder / "venv").rglob("*rtfilter*") if not path.is_dir() or any(path.iterdir())]
         self.assertEqual(left, [])

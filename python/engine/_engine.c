@@ -254,6 +254,7 @@ typedef struct {
     bool has_scores;
 } request;
 
+#define NOT_CONVEX "polygon not strictly convex" /* as rtfilter_query_message() has it */
 #define AT(member) offsetof(rtfilter_query, member)
 #define BOX {AT(min_x), AT(max_x), AT(min_y), AT(max_y)}
 enum { CIRCLE = 4, POLYGON = 5, ORDERS = 6, KINDS = 8 };
@@ -290,7 +291,7 @@ static PyObject *raise_query(PyObject *region, Py_ssize_t at, const char *code, 
 static PyObject *raise_refused(const request *it)
 {
     const bool is_polygon = it->query.region == RTFILTER_POLYGON;
-    return raise_query(it->region, -1, is_polygon ? "Q9" : "Q7", is_polygon ? "polygon not strictly convex" : "minimum above maximum");
+    return raise_query(it->region, -1, is_polygon ? "Q9" : "Q7", is_polygon ? NOT_CONVEX : "minimum above maximum");
 }
 
 /* A whole number, or what Python takes for an index. A new reference. */
@@ -446,10 +447,22 @@ static bool put_layers(request *it, PyObject *on)
     return !PyErr_Occurred();
 }
 
+static bool is_not_convex(const request *it)
+{
+    const rtfilter_queries queries = {&it->query, 1, it->vertices, it->query.vertices};
+    return it->query.region == RTFILTER_POLYGON && !strcmp(rtfilter_query_message(&queries, 0), NOT_CONVEX);
+}
+
+/* Puts the arguments after the region. Of two faults the polygon's is raised, which is the first one in a query line. */
 static bool put_rest(request *it, PyObject *order, PyObject *first, PyObject *on)
 {
-    return (order == Py_None || put_order(it, order)) && (on == Py_None || put_layers(it, on)) &&
-           (first == Py_None || put_limit(it, first));
+    if ((order == Py_None || put_order(it, order)) && (on == Py_None || put_layers(it, on)) && (first == Py_None || put_limit(it, first)))
+        return true;
+    if (PyErr_ExceptionMatches(query_error) && is_not_convex(it)) {
+        PyErr_Clear();
+        raise_refused(it);
+    }
+    return false;
 }
 
 /* The arguments of a find: region, order and first by place or name, on and scores by name. */

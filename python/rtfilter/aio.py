@@ -91,9 +91,9 @@ class Client:
 
     async def replies(self, lines: Iterable[str]) -> list[Reply]:
         """The replies to query lines, as `Rtfilter.replies` gives them."""
-        wanted = listed(lines)
-        replies, before = await self._exchange(joined(wanted) + MARKER, len(wanted) + 1)
-        return cut(replies, [*wanted, ""], before + 1)[:-1]
+        texts = listed(lines)
+        replies, before = await self._exchange(joined(texts) + MARKER, len(texts) + 1)
+        return cut(replies, [*texts, ""], before + 1)[:-1]
 
     async def close(self) -> None:
         """Closes the connection. Later calls raise ValueError, and one that is under way Disconnected."""

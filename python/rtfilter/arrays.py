@@ -4,14 +4,15 @@ Only calls about arrays import this module, and numpy with it.
 """
 
 from collections.abc import Iterator, Sequence
+from copy import copy
 from operator import index
-from typing import Any
+from typing import Any, Self
 
 import numpy
 from numpy.typing import NDArray
 
 from . import _engine
-from .errors import QueryError
+from .errors import FLOATS, QueryError
 from .regions import All, Circle, Covers, Inside, Layers, Near, Order, Window
 
 Columns = list[NDArray[Any]]
@@ -31,19 +32,19 @@ def is_frame(value: object) -> bool:
     return hasattr(value, "columns") and hasattr(value, "itertuples")
 
 
-def columns_of(value: Any, what: str, wanted: Sequence[str], optional: Sequence[str] = ()) -> Columns:
+def columns_of(value: Any, what: str, required: Sequence[str], optional: Sequence[str] = ()) -> Columns:
     """Columns of whole numbers: of an array of two dimensions, of a list of rows, or of a frame or an array with fields, by
     their names. Raises TypeError where a number isn't whole, a column is missing or there twice, or the shape is another."""
     names = value.columns if is_frame(value) else getattr(getattr(value, "dtype", None), "names", None)
     if names is not None:
-        columns = [numpy.asanyarray(value[name]) for name in _found(list(names), what, wanted, optional)]
+        columns = [numpy.asanyarray(value[name]) for name in _found(list(names), what, required, optional)]
         if any(it.ndim != 1 for it in columns):
             raise TypeError(f"{what}: a column has one number for each row")
         return [whole(it, what) for it in columns]
     array = value if isinstance(value, numpy.ndarray) else _array(value, what)
     if array.shape == (0,):
-        return [numpy.empty(0, "i8") for _ in wanted]
-    widths = sorted({len(wanted), len(wanted) + len(optional)})
+        return [numpy.empty(0, "i8") for _ in required]
+    widths = sorted({len(required), len(required) + len(optional)})
     if array.ndim != 2 or array.shape[1] not in widths:
         raise TypeError(f"{what}: the shape is {array.shape}, and not (n, {' or '.join(map(str, widths))})")
     return list(whole(array, what).T)
@@ -59,13 +60,13 @@ def _array(rows: Any, what: str) -> NDArray[Any]:
     return array if array.dtype.kind in "iu" else numpy.array(listed, dtype=object)
 
 
-def _found(names: list[Any], what: str, wanted: Sequence[str], optional: Sequence[str]) -> Iterator[Any]:
+def _found(names: list[Any], what: str, required: Sequence[str], optional: Sequence[str]) -> Iterator[Any]:
     """The names of columns. Capital letters and underscores make no difference."""
-    for column in (*wanted, *optional):
+    for column in (*required, *optional):
         found = [it for it in names if str(it).replace("_", "").lower() == column.replace("_", "")]
         if len(found) > 1:
             raise TypeError(f"{what}: the columns {' and '.join(map(str, found))} are both {column}")
-        if not found and column in wanted:
+        if not found and column in required:
             raise TypeError(f"{what}: there is no column {column} among {', '.join(map(str, names))}")
         yield from found
 
@@ -80,7 +81,7 @@ def whole(array: NDArray[Any], what: str) -> NDArray[Any]:
         except TypeError as error:
             raise TypeError(f"{what}: {error}") from None
     if array.dtype.kind not in "iu":
-        raise TypeError(f"{what}: numbers are whole, and not {array.dtype}")
+        raise TypeError(f"{what}: numbers are {array.dtype}, and not whole{FLOATS * (array.dtype.kind == 'f')}")
     return numpy.asarray(array)
 
 
@@ -103,24 +104,41 @@ class Queries:
     """Many queries of one kind, whose numbers are columns, packed as the library has them."""
 
     def __init__(self, region: type, columns: Columns, order: Order | None, first: int | None, on: Layers | None) -> None:
-        self._region, self._columns = region, columns
+        self.region, self.columns, self.order, self.first = region, columns, order, first
         self._members = MEMBERS[region]
         self._prototype = _engine.query_of(region, order, first, on)
-        self._is_near = region is Circle and order is None  # by distance from the centre
-        self._len = len(columns[0]) if columns else 0
+
+    def __len__(self) -> int:
+        return len(self.columns[0]) if self.columns else 0
+
+    @property
+    def is_by_distance(self) -> bool:
+        """Whether the nearest answers come first."""
+        return isinstance(self.order, Near) or (self.region is Circle and self.order is None)
+
+    @property
+    def is_scored(self) -> bool:
+        """Whether answers are ordered by a score, and not by id alone."""
+        return self.is_by_distance or self.order is not None
+
+    def rows(self, at: Any) -> Self:
+        """The queries at some indices, or of a slice."""
+        some = copy(self)
+        some.columns = [it[at] for it in self.columns]
+        return some
 
     def parts(self) -> Iterator[tuple[int, NDArray[Any]]]:
         """The place of the first query of each part, and the part. Raises QueryError for a number out of range, once the
         queries before it were given."""
-        queries = numpy.frombuffer(bytearray(self._prototype * min(PART, self._len)), QUERY)
-        for begin in range(0, self._len, PART):
-            columns = [it[begin : begin + PART] for it in self._columns]
+        queries = numpy.frombuffer(bytearray(self._prototype * min(PART, len(self))), QUERY)
+        for begin in range(0, len(self), PART):
+            columns = [it[begin : begin + PART] for it in self.columns]
             beyond = first_beyond(columns, [QUERY[name].str for name in self._members])
             count = len(columns[0]) if beyond is None else beyond[0]
             some = queries[:count]
             for name, column in zip(self._members, columns):
                 some[name] = column[:count]
-            if self._is_near:
+            if self.region is Circle and self.order is None:
                 some["near_x"], some["near_y"] = some["x"], some["y"]
             yield begin, some
             if beyond is not None:
@@ -128,7 +146,7 @@ class Queries:
 
     def at(self, place: int) -> object:
         """The region at a place."""
-        return self._region(*(int(it[place]) for it in self._columns))
+        return self.region(*(int(it[place]) for it in self.columns))
 
 
 class Nearest(Queries):
@@ -139,7 +157,24 @@ class Nearest(Queries):
         self._members = ("near_x", "near_y")
 
     def at(self, place: int) -> object:
-        return Near(*(int(it[place]) for it in self._columns))
+        return Near(*(int(it[place]) for it in self.columns))
+
+
+def queries_of(windows: Any, bounds: Any, region: type, order: Order | None, first: int | None, on: Layers | None) -> Queries:
+    """Queries from rows of the numbers of a region, or from bounds in their place: rows of min_x, min_y, max_x, max_y."""
+    if (windows is None) == (bounds is None):
+        raise TypeError("either windows or bounds")
+    members = MEMBERS.get(region)
+    if members is None:
+        raise TypeError(f"{region!r} is no region whose numbers are as many in each row")
+    if bounds is None:
+        columns = columns_of(windows, "windows", members)
+    elif members is not SIDES:
+        raise TypeError(f"{region.__name__} has no bounds")
+    else:
+        min_x, min_y, max_x, max_y = columns_of(bounds, "bounds", BOUNDS)
+        columns = [min_x, max_x, min_y, max_y]
+    return Queries(region, columns, order, first, on)
 
 
 def numbers_of(buffer: bytearray, format: str, count: int) -> NDArray[Any]:

@@ -165,9 +165,9 @@ class Client:
 
     def replies(self, lines: Iterable[str]) -> list[Reply]:
         """The replies to query lines, as `Rtfilter.replies` gives them."""
-        wanted = listed(lines)
-        replies, before = self._exchange(joined(wanted) + MARKER, len(wanted) + 1)
-        return cut(replies, [*wanted, ""], before + 1)[:-1]
+        texts = listed(lines)
+        replies, before = self._exchange(joined(texts) + MARKER, len(texts) + 1)
+        return cut(replies, [*texts, ""], before + 1)[:-1]
 
     def close(self) -> None:
         """Closes the connection. Later calls raise ValueError."""

@@ -11,6 +11,8 @@ KINDS = {  # of a table's faults, as the library numbers them
 OUT_OF_RANGE, FIELD_COUNT = 4, 2
 SIDES = "; the order here is min_x, max_x, min_y, max_y; that of from_bounds and bounds= is min_x, min_y, max_x, max_y"
 
+FLOATS = ": scale and round floats, or use rtfilter.geometry.STRtree, which compares them"
+
 
 class RtfilterError(Exception):
     """An error of this package."""

@@ -54,6 +54,15 @@ class STRtree:
         """How many geometries there are that can be found."""
         return len(self._boxes.table)
 
+    @property
+    def bounds(self) -> tuple[float, float, float, float] | None:
+        """The least box around all geometries, as min_x, min_y, max_x, max_y; None where there are none."""
+        rows = self._boxes.bounds[~numpy.isnan(self._boxes.bounds).any(axis=1)]
+        if not len(rows):
+            return None
+        (min_x, min_y), (max_x, max_y) = rows[:, :2].min(axis=0).tolist(), rows[:, 2:].max(axis=0).tolist()
+        return min_x, min_y, max_x, max_y
+
     def query_bounds(self, bounds: Any) -> Places:
         """The places of the geometries whose bounds overlap (min_x, min_y, max_x, max_y). Of rows of bounds, an array of two
         rows: the places of bounds, and of geometries."""

@@ -26,46 +26,23 @@ class _OwnKind(tuple[Any, ...]):
         return tuple.__hash__(self)
 
 
-class _Nothing(NamedTuple):
-    pass
+class _Box(_OwnKind):
+    """What windows have in common."""
 
-
-class _Sides(NamedTuple):
-    min_x: int
-    max_x: int
-    min_y: int
-    max_y: int
-
-
-class _Disc(NamedTuple):
-    x: int
-    y: int
-    radius: int
-
-
-class _Point(NamedTuple):
-    x: int
-    y: int
-
-
-class _Vertices(NamedTuple):
-    vertices: tuple[tuple[int, int], ...]
-
-
-class _Box(_OwnKind, _Sides):
     __slots__ = ()
 
     @classmethod
     def from_bounds(cls, bounds: Iterable[int]) -> Self:
         """The same from (min_x, min_y, max_x, max_y): the order of shapely's `bounds`, of GeoJSON's `bbox` and of rtree."""
         min_x, min_y, max_x, max_y = bounds
-        return cls(min_x, max_x, min_y, max_y)
+        return tuple.__new__(cls, (min_x, max_x, min_y, max_y))
 
     def __str__(self) -> str:
         return " ".join([type(self).__name__.lower(), *(str(index(it)) for it in self)])
 
 
-class All(_OwnKind, _Nothing):
+# (each class has a named tuple of its own, so that an error names the class)
+class All(_OwnKind, NamedTuple("All", [])):
     """Every box."""
 
     __slots__ = ()
@@ -74,25 +51,25 @@ class All(_OwnKind, _Nothing):
         return "all"
 
 
-class Window(_Box):
+class Window(_Box, NamedTuple("Window", [("min_x", int), ("max_x", int), ("min_y", int), ("max_y", int)])):
     """The boxes that overlap a window."""
 
     __slots__ = ()
 
 
-class Inside(_Box):
+class Inside(_Box, NamedTuple("Inside", [("min_x", int), ("max_x", int), ("min_y", int), ("max_y", int)])):
     """The boxes that lie within a window."""
 
     __slots__ = ()
 
 
-class Covers(_Box):
+class Covers(_Box, NamedTuple("Covers", [("min_x", int), ("max_x", int), ("min_y", int), ("max_y", int)])):
     """The boxes within which a window lies."""
 
     __slots__ = ()
 
 
-class Circle(_OwnKind, _Disc):
+class Circle(_OwnKind, NamedTuple("Circle", [("x", int), ("y", int), ("radius", int)])):
     """The boxes with a point at most `radius` away from (x, y). Without another order, the nearest come first."""
 
     __slots__ = ()
@@ -101,7 +78,7 @@ class Circle(_OwnKind, _Disc):
         return f"circle {index(self.x)} {index(self.y)} {index(self.radius)}"
 
 
-class Polygon(_OwnKind, _Vertices):
+class Polygon(_OwnKind, NamedTuple("Polygon", [("vertices", tuple[tuple[int, int], ...])])):
     """The boxes that overlap a strictly convex polygon of 3 to 16 vertices, pairs (x, y) in order round it."""
 
     __slots__ = ()
@@ -113,7 +90,7 @@ class Polygon(_OwnKind, _Vertices):
         return " ".join([f"polygon {len(self.vertices)}", *(f"{index(x)} {index(y)}" for x, y in self.vertices)])
 
 
-class Near(_OwnKind, _Point):
+class Near(_OwnKind, NamedTuple("Near", [("x", int), ("y", int)])):
     """Orders boxes by the square of their distance from (x, y)."""
 
     __slots__ = ()
@@ -122,7 +99,7 @@ class Near(_OwnKind, _Point):
         return f"near {index(self.x)} {index(self.y)}"
 
 
-class Smallest(_OwnKind, _Nothing):
+class Smallest(_OwnKind, NamedTuple("Smallest", [])):
     """Orders boxes by their area."""
 
     __slots__ = ()

@@ -7,7 +7,7 @@ from types import TracebackType
 from typing import TYPE_CHECKING, Any, NoReturn, Self
 
 from . import _engine
-from .errors import FIELD_COUNT, OUT_OF_RANGE, QueryError, TableError
+from .errors import FIELD_COUNT, FLOATS, OUT_OF_RANGE, QueryError, TableError
 from .regions import CLASSES, Layers, Order, Window
 from .replies import Reply, cut, joined, listed
 
@@ -94,7 +94,8 @@ class Rtfilter(_engine.Table):
                 except OverflowError:
                     cls._refuse((it[: record - 1] for it in columns), record, at + 1, fanout, max_entries)
                 except TypeError:
-                    raise TypeError(f"row {record - 1}: {FIELDS[at]} is a whole number, and not {number!r}") from None
+                    help = FLOATS if isinstance(number, float) else ""
+                    raise TypeError(f"row {record - 1}: {FIELDS[at]} is {number!r}, and not a whole number{help}") from None
         return cls._open_arrays(tuple(columns), fanout, max_entries)
 
     def __enter__(self) -> Self:
@@ -129,8 +130,8 @@ class Rtfilter(_engine.Table):
 
     def replies(self, lines: Iterable[str]) -> list[Reply]:
         """The replies to query lines: Answers, a QueryError for a faulty line, None for a blank one and a comment."""
-        wanted = listed(lines)
-        return cut(self._text(joined(wanted)), wanted)
+        texts = listed(lines)
+        return cut(self._text(joined(texts)), texts)
 
     def find_each(
         self,
@@ -147,7 +148,9 @@ class Rtfilter(_engine.Table):
         `windows` are rows of the numbers of a region, `bounds` in their place rows of min_x, min_y, max_x, max_y: an array, a
         frame with columns of these names, or a list. `region` is any of the classes but Polygon.
         """
-        places, ids, _ = self._found(_queries(windows, bounds, region, order, first, on), False)
+        from . import arrays
+
+        places, ids, _ = self._found(arrays.queries_of(windows, bounds, region, order, first, on), False)
         return places, ids
 
     def nearest_each(self, points: Any, k: int) -> "tuple[NDArray[Any], NDArray[Any], NDArray[Any]]":
@@ -162,11 +165,15 @@ class Rtfilter(_engine.Table):
         self, windows: Any = None, *, bounds: Any = None, region: type = Window, on: Layers | None = None
     ) -> "NDArray[Any]":
         """How many boxes each of many windows accepts, as an array. The arguments are those of `find_each`."""
+        from . import arrays
+
+        return self._counted(arrays.queries_of(windows, bounds, region, None, None, on))
+
+    def _counted(self, queries: "Queries") -> "NDArray[Any]":
         import numpy
 
         from . import arrays
 
-        queries = _queries(windows, bounds, region, None, None, on)
         counts = [numpy.empty(0, "u8")]
         for place, part in queries.parts():
             with _named(queries):
@@ -199,24 +206,6 @@ class _named:
     def __exit__(self, kind: type[BaseException] | None, error: BaseException | None, trace: TracebackType | None) -> None:
         if isinstance(error, QueryError) and error.place is not None:
             raise QueryError(self._queries.at(error.place), error.place, error.code, error.text) from None
-
-
-def _queries(windows: Any, bounds: Any, region: type, order: Order | None, first: int | None, on: Layers | None) -> "Queries":
-    from . import arrays
-
-    if (windows is None) == (bounds is None):
-        raise TypeError("either windows or bounds")
-    members = arrays.MEMBERS.get(region)
-    if members is None:
-        raise TypeError(f"{region!r} is no region whose numbers are as many in each row")
-    if bounds is None:
-        columns = arrays.columns_of(windows, "windows", members)
-    elif members is not arrays.SIDES:
-        raise TypeError(f"{region.__name__} has no bounds")
-    else:
-        min_x, min_y, max_x, max_y = arrays.columns_of(bounds, "bounds", arrays.BOUNDS)
-        columns = [min_x, max_x, min_y, max_y]
-    return arrays.Queries(region, columns, order, first, on)
 
 
 def _column(values: Any, what: str, count: int) -> "NDArray[Any]":

@@ -127,8 +127,9 @@ def _parts(polygon: Any) -> Any:
     """The parts of a polygon, each a list of rings."""
     found = getattr(polygon, "__geo_interface__", polygon)
     if isinstance(found, Mapping) and found.get("type") == "Feature":
-        found = found["geometry"]
+        found = found.get("geometry")
     kind = found.get("type") if isinstance(found, Mapping) else None
     if kind not in ("Polygon", "MultiPolygon"):
         raise ValueError(f"{kind or type(polygon).__name__} is no Polygon and no MultiPolygon")
-    return [found["coordinates"]] if kind == "Polygon" else found["coordinates"]
+    coordinates = found.get("coordinates")
+    return [coordinates] if kind == "Polygon" else coordinates

@@ -54,18 +54,22 @@ def test_later_pythons(table: Path, wanted: str) -> None:
         assert exercised([python], PACKAGE, table) == wanted
 
 
+def built(folder: Path, *words: str) -> Path:
+    """A copy of the package with an extension that gcc builds with these options and files."""
+    if not shutil.which("gcc") or not Path(LIBRARY).exists():
+        pytest.skip("gcc or librtfilter.a isn't there")
+    package = folder / "rtfilter"
+    shutil.copytree(PACKAGE, package, ignore=shutil.ignore_patterns("*.so", "__pycache__"))
+    include = subprocess.check_output([sys.executable, "-c", "import sysconfig; print(sysconfig.get_paths()['include'])"], text=True)
+    files = [f"-I{include.strip()}", f"-I{ROOT / 'include'}", str(ROOT / "python/engine/_engine.c"), LIBRARY]
+    subprocess.run(["gcc", "-fPIC", "-shared", *words, *files, "-o", str(package / "_engine.abi3.so")], check=True)
+    return package
+
+
 @pytest.fixture
 def sanitized(tmp_path: Path) -> Path:
     """The package with an extension that the sanitizers watch."""
-    if not shutil.which("gcc") or not Path(LIBRARY).exists():
-        pytest.skip("gcc or librtfilter.a isn't there")
-    package = tmp_path / "rtfilter"
-    shutil.copytree(PACKAGE, package, ignore=shutil.ignore_patterns("*.so", "__pycache__"))
-    include = subprocess.check_output([sys.executable, "-c", "import sysconfig; print(sysconfig.get_paths()['include'])"], text=True)
-    words = ["gcc", "-g", "-O", "-fsanitize=address,undefined", "-fno-sanitize-recover=all", "-fPIC", "-shared"]
-    words += [f"-I{include.strip()}", f"-I{ROOT / 'include'}", str(ROOT / "python/engine/_engine.c"), LIBRARY]
-    subprocess.run([*words, "-o", str(package / "_engine.abi3.so")], check=True)
-    return package
+    return built(tmp_path, "-g", "-O", "-fsanitize=address,undefined", "-fno-sanitize-recover=all")
 
 
 def test_sanitizers(sanitized: Path, table: Path, wanted: str) -> None:
@@ -79,3 +83,26 @@ def test_valgrind(table: Path, wanted: str) -> None:
     valgrind = shutil.which("valgrind") or pytest.skip("valgrind isn't installed")
     words = [valgrind, "--quiet", "--error-exitcode=9", "--trace-children=no", sys.executable]
     assert exercised(words, PACKAGE, table, PYTHONMALLOC="malloc") == wanted
+
+
+OLD_PROCESSOR = f"""
+#include <cpuid.h>
+static int no_cpuid(unsigned leaf, unsigned *a, unsigned *b, unsigned *c, unsigned *d)
+{{
+    (void)leaf, (void)a, (void)b, (void)c, (void)d;
+    return 0;
+}}
+#define __get_cpuid no_cpuid
+#include "{ROOT}/library/rtfilter.c"
+"""
+
+
+def test_another_processor(tmp_path: Path, table: Path) -> None:
+    """One that isn't an x86-64-v2: the library says so, and it is raised."""
+    source = tmp_path / "old_processor.c"
+    source.write_text(OLD_PROCESSOR)
+    package = built(tmp_path, f"-I{ROOT}/library", str(source))
+    for argument in (repr(str(table)), "[(1, 0, 1, 0, 1)]", "[]"):
+        words = [sys.executable, "-c", f"from rtfilter import Rtfilter\nRtfilter({argument})"]
+        done = subprocess.run(words, cwd=package.parent, capture_output=True, text=True)
+        assert done.returncode == 1 and "RuntimeError: processor is not an x86-64-v2" in done.stderr, done.stderr

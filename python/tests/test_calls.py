@@ -117,7 +117,7 @@ def test_invalid_queries(boxes: Rtfilter, region: Any, code: str, text: str) -> 
         (lambda it: it.find(All(), on=[3, False]), TypeError, "a layer is a whole number, and not False"),
         (lambda it: it.find(All(), on="3"), TypeError, "layers are whole numbers, and not '3'"),
         (lambda it: it.find(All(), on=1.0), TypeError, "1.0 isn't a whole number"),
-        (lambda it: it.find_each(numpy.zeros((1, 4))), TypeError, "windows: numbers are whole, and not float64"),
+        (lambda it: it.find_each(numpy.zeros((1, 4))), TypeError, "windows: numbers are float64, and not whole"),
         (lambda it: it.find_each([(0, 1, 0)]), TypeError, "windows: the shape is (1, 3), and not (n, 4)"),
         (lambda it: it.find_each([(0, 1, 0, 1), (0, 1)]), TypeError, "windows: rows of different lengths"),
         (lambda it: it.find_each(), TypeError, "either windows or bounds"),
@@ -205,3 +205,14 @@ def test_answers_of_many_may_be_many() -> None:
     places, ids, scores = table.nearest_each([(0, 1)] * 200, count)
     assert len(ids) == 200 * count and scores.dtype == numpy.uint64 and (scores == 1).all()
     assert table.find(All()) == [*range(count)] and table.count_each([(0, 0, 0, 0)] * 5000).sum() == 5000 * count
+
+
+def test_the_first_of_two_faults(boxes: Rtfilter) -> None:
+    """It is that of the query line, from left to right."""
+    flat, beyond = Polygon([(0, 0), (1, 1), (2, 2)]), Near(2**31, 0)
+    for region, order, first in ((flat, beyond, None), (flat, None, 2**64), (Window(5, 1, 0, 1), beyond, None), (Window(0, 1, 0, 1), beyond, -1)):
+        words = [f"find {region}", *([str(order)] if order else []), *([f"first {first}"] if first else [])]
+        (reply,) = boxes.replies([" ".join(words)])
+        with pytest.raises(QueryError) as raised:
+            boxes.find(region, order, first)
+        assert isinstance(reply, QueryError) and (raised.value.code, raised.value.text) == (reply.code, reply.text)

@@ -4,6 +4,8 @@ import asyncio
 import os
 import pickle
 import socket
+import subprocess
+import sys
 import threading
 import time
 from collections.abc import Iterator
@@ -11,7 +13,7 @@ from pathlib import Path
 from typing import Any
 
 import pytest
-from conftest import Serve
+from conftest import PROGRAM, ROOT, Serve
 
 from rtfilter import All, Client, Disconnected, QueryError, Rtfilter, RtfilterError, TimedOut, Window, aio
 
@@ -295,3 +297,16 @@ def test_asyncio_calls(data: Path, serve: Serve, boxes: Rtfilter) -> None:
                 await client.find(Window(5, 1, 0, 1))
 
     asyncio.run(ask(serve(data / "boxes.csv")))
+
+
+def test_a_service_ends_while_its_last_connection_does(data: Path, tmp_path: Path) -> None:
+    """Whichever of both it notices first."""
+    for at in range(40):
+        path = tmp_path / f"socket{at}"
+        words = [sys.executable, str(ROOT / "service/serve.py"), "--program", PROGRAM, "--unix", str(path), str(data / "boxes.csv")]
+        with subprocess.Popen(words, stderr=subprocess.PIPE, text=True) as service:
+            assert service.stderr is not None and any("ready" in line for line in service.stderr)
+            with Client(path, timeout=20) as client:
+                assert client.count(All()) == 5
+            service.terminate()
+            assert service.wait(30) == 0

@@ -1,4 +1,4 @@
-"""The examples of docs/python.md show what Python prints."""
+"""The Python examples of the pages show what Python prints."""
 
 import contextlib
 import doctest
@@ -8,17 +8,17 @@ from pathlib import Path
 import pytest
 from conftest import ROOT
 
-PAGE = ROOT / "docs/python.md"
-MOST_LINES = 200
+MOST_LINES = {"docs/python.md": 200}
 
 
 @pytest.mark.filterwarnings("ignore")
-def test_examples(data: Path) -> None:
+@pytest.mark.parametrize("name, least", [("docs/python.md", 25), ("docs/quick-start.md", 4), ("docs/recipes.md", 4)])
+def test_examples(name: str, least: int, data: Path) -> None:
     pytest.importorskip("geopandas")
-    text = PAGE.read_text(encoding="utf-8")
+    text = (ROOT / name).read_text(encoding="utf-8")
     examples = "".join(block.split("\n```")[0] + "\n" for block in text.split("```pycon\n")[1:])
-    session = doctest.DocTestParser().get_doctest("\n".join(examples.splitlines()) + "\n", {}, PAGE.name, str(PAGE), 0)
-    assert len(session.examples) > 25 and text.count("\n") <= MOST_LINES
+    session = doctest.DocTestParser().get_doctest("\n".join(examples.splitlines()) + "\n", {}, name, name, 0)
+    assert len(session.examples) > least and text.count("\n") <= MOST_LINES.get(name, 1000)
     with contextlib.chdir(data), warnings.catch_warnings():
         warnings.simplefilter("ignore")
         shown: list[str] = []

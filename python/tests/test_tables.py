@@ -63,7 +63,7 @@ def test_bounds() -> None:
             assert table.find(All(), on=3) == [7] and table.find(All(), on=63) == [-7]
     with pytest.raises(TypeError, match=r"ids: the shape is \(1,\), and not \(2,\)"):
         Rtfilter.from_bounds(bounds, ids=[7])
-    with pytest.raises(TypeError, match="layers: numbers are whole, and not float64"):
+    with pytest.raises(TypeError, match="layers: numbers are float64, and not whole"):
         Rtfilter.from_bounds(bounds, layers=[1.0, 2.0])
 
 
@@ -157,19 +157,19 @@ FRAME = pandas.DataFrame(ROWS, columns=NAMES)
 @pytest.mark.parametrize(
     "table, words",
     [
-        ([(1, 0, 1.5, 0, 1)], "row 0: max_x is a whole number, and not 1.5"),
-        ([(1, 0, "1", 0, 1)], "row 0: max_x is a whole number, and not '1'"),
-        ([ROWS[0], (2, None, 1, 0, 1)], "row 1: min_x is a whole number, and not None"),
-        (numpy.array(ROWS, float), "the table: numbers are whole, and not float64"),
-        (numpy.array([(1, 0, numpy.nan, 0, 1)]), "the table: numbers are whole, and not float64"),
+        ([(1, 0, 1.5, 0, 1)], "row 0: max_x is 1.5, and not a whole number"),
+        ([(1, 0, "1", 0, 1)], "row 0: max_x is '1', and not a whole number"),
+        ([ROWS[0], (2, None, 1, 0, 1)], "row 1: min_x is None, and not a whole number"),
+        (numpy.array(ROWS, float), "the table: numbers are float64, and not whole"),
+        (numpy.array([(1, 0, numpy.nan, 0, 1)]), "the table: numbers are float64, and not whole"),
         (numpy.array([(1, 0, 1.0, 0, 1)], object), "the table: 'float' object cannot be interpreted as an integer"),
-        (numpy.array(ROWS, bool), "the table: numbers are whole, and not bool"),
+        (numpy.array(ROWS, bool), "the table: numbers are bool, and not whole"),
         (numpy.ma.array(ROWS, mask=[[0] * 5] * 4 + [[0, 0, 0, 0, 1]]), "the table: a number is masked"),
         (numpy.zeros((3, 4), "i8"), r"the table: the shape is (3, 4), and not (n, 5 or 6)"),
         (numpy.zeros(5, "i8"), r"the table: the shape is (5,), and not (n, 5 or 6)"),
         (FRAME.drop(columns="max_y"), "the table: there is no column max_y among id, min_x, max_x, min_y"),
         (FRAME.assign(maxY=1), "the table: the columns max_y and maxY are both max_y"),
-        (FRAME.assign(min_x=FRAME.min_x / 2), "the table: numbers are whole, and not float64"),
+        (FRAME.assign(min_x=FRAME.min_x / 2), "the table: numbers are float64, and not whole"),
         (FRAME.astype("Int64").replace(30, pandas.NA), "the table: 'NAType' object cannot be interpreted as an integer"),
         (7, "'int' object is not iterable"),
     ],

@@ -16,9 +16,7 @@ FOLDERS = "python", "service", "examples", "packaging", "bench", "tests", "tools
 
 CHECKED = {  # the folders of modules, and the files that are checked at once: modules of two examples may have one name
     "python:service": ["python/rtfilter", "python/setup.py", "service/*.py", "packaging/*.py"],
-    "python:service:examples/common:examples/geofence": ["examples/common/*.py", "examples/geofence/*.py"],
-    "python:examples/common:examples/roads": ["examples/roads/*.py"],
-    "python:service:examples/tiles": ["examples/tiles/*.py"],
+    "python": ["examples/*.py"],
 }
 
 
@@ -39,6 +37,23 @@ def private_names(file: Path) -> Iterator[str]:
             for name in (*node.module.split("."), *(it.name for it in node.names)):
                 if name.startswith("_") and not name.endswith("__"):
                     yield f"{file.relative_to(ROOT)}:{node.lineno}: {name}"
+
+
+# Scripts that import from a folder beside their own. All other modules are found by PYTHONPATH alone.
+EDITING = {"bench/charts.py", "bench/drawings.py", "tests/grammar.py", "tools/kit.py", "tools/pictures.py"}
+
+
+def uses_of_the_path(file: Path) -> Iterator[str]:
+    """Where a file uses `sys.path`."""
+    for node in ast.walk(ast.parse(file.read_text(encoding="utf-8"))):
+        if isinstance(node, ast.Attribute) and node.attr == "path" and isinstance(node.value, ast.Name) and node.value.id == "sys":
+            yield f"{file.relative_to(ROOT)}:{node.lineno}"
+
+
+def test_no_path_is_edited() -> None:
+    files = [it for folder in (*FOLDERS, "docs") for it in (ROOT / folder).rglob("*.py")]
+    places = [place for it in files for place in uses_of_the_path(it)]
+    assert len(files) > 50 and {place.partition(":")[0] for place in places} == EDITING
 
 
 def test_no_private_names() -> None:

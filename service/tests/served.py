@@ -28,8 +28,6 @@ SYSTEM_PYTHON = "/usr/bin/python3"  # which other users may run too
 MOMENT = re.compile(r"^\d{4}-\d\d-\d\dT\d\d:\d\d:\d\dZ ", re.MULTILINE)  # at which a line was logged
 LONG = 20.0  # seconds after which what is waited for doesn't come
 
-sys.path[:0] = [str(ROOT / "service"), str(ROOT / "tests")]
-
 import random_runs as random_runs  # for others too
 from prefork import library_of as library_of
 

@@ -9,13 +9,12 @@ import sys
 import time
 import unittest
 
-from served import BOXES, LONG, MOMENT, SERVICE, Case, Served, is_there, read_lines, send, table_of, until
+from served import BOXES, LONG, MOMENT, Case, Served, is_there, read_lines, send, table_of, until
 
 # A service whose program has told its size and ended, both before the service looks.
 ENDING = """
 import asyncio, signal, socket, subprocess, sys
 from argparse import Namespace
-sys.path += sys.argv[1:]
 import prefork
 from service import SIGNALS, Service
 
@@ -53,7 +52,7 @@ class Control(Case):
 
     def test_a_program_that_ends_as_soon_as_it_has_loaded(self) -> None:
         """It isn't the table: its end comes with what it tells of its size."""
-        words = [sys.executable, "-c", ENDING, str(SERVICE.parent)]
+        words = [sys.executable, "-c", ENDING]
         done = subprocess.run(words, capture_output=True, text=True, timeout=LONG)
         self.assertEqual((done.returncode, MOMENT.sub("", done.stderr)), (1, "the program has ended, with status 0\n"))
 

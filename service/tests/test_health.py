@@ -11,7 +11,7 @@ import time
 import unittest
 from pathlib import Path
 
-from served import BOXES, MOMENT, PROGRAM, SERVICE, Case, Served, library_of, read_lines, until
+from served import BOXES, MOMENT, PROGRAM, SERVICE, Case, Served, read_lines, table_of, until
 
 HEAD = re.compile(
     rb"HTTP/1\.0 (\d{3}) [A-Za-z ]+\r\nContent-Type: text/plain; version=0\.0\.4; charset=utf-8\r\n"
@@ -57,6 +57,7 @@ class Health(Case):
             self.assertRegex(line, SAMPLE)
         values = dict(line.rsplit(" ", 1) for line in samples)
         self.assertLess(float(values.pop("rtfilter_table_age_seconds")), 5)
+        self.assertTrue(0 < float(values.pop("rtfilter_busy_seconds_total")) < 5)
         self.assertEqual(values, {
             "rtfilter_ready": "1", "rtfilter_boxes": "5", "rtfilter_connections": "1", "rtfilter_connections_total": "5",
             "rtfilter_connections_refused_total": "1", "rtfilter_connections_not_begun_total": "0",
@@ -66,7 +67,7 @@ class Health(Case):
         })
         types = dict(re.findall(r"^# TYPE (\w+) (\w+)$", text, re.MULTILINE))
         self.assertEqual({name: "counter" if name.endswith("_total") else "gauge" for name in types}, types)
-        self.assertEqual(set(types), {re.split(r"\W", name)[0] for name in values} | {"rtfilter_table_age_seconds"})
+        self.assertEqual(set(types), {re.split(r"\W", name)[0] for name in values} | {"rtfilter_table_age_seconds", "rtfilter_busy_seconds_total"})
 
     def test_while_there_is_no_table(self) -> None:
         """Before the first one is loaded, and after the program has ended; not while another one is loaded."""
@@ -89,25 +90,46 @@ class Health(Case):
         until(lambda: service.get("/health") == (200, "ready\n"), "another program")
 
     def test_lines_and_loads(self) -> None:
-        """Lines that are answered, of all connections and tables: no blank ones and no comments."""
+        """Lines of all connections and tables, blank ones and comments included."""
         table = Path(self.folder, "table")
         table.write_bytes(BOXES.read_bytes())
         service = self.served(table, "--health", "0", "--max-entries", "5")
         lines = b"count all\n\n# find all\n \t\r\n  x\n" + b"#" * 70_000 + b"\nfind all"
         self.assertEqual(service.ask(lines).count(b"\n"), 3 + 1 + 5)  # a line that is too long is answered, whatever it is
-        self.assertEqual(service.metric("rtfilter_lines_answered_total"), 3)
+        self.assertEqual(service.metric("rtfilter_lines_answered_total"), 7)
         service.exchange()
         with service.connect() as asker:
             for at in range(1, 4):
                 asker.sendall(b"count all\n")
                 read_lines(asker, 1)
-                until(lambda: service.metric("rtfilter_lines_answered_total") == 3 + at, "a line")
+                until(lambda: service.metric("rtfilter_lines_answered_total") == 7 + at, "a line")
         with open(table, "a") as more:
             more.write("6,0,1,0,1\n")
         service.signal(signal.SIGHUP)
-        fault = "table record 6: too many entries; docs/SCALING.md says what holds more boxes"
+        fault = "table record 6: too many entries; docs/scaling.md says what holds more boxes"
         service.logs(f"^the new table isn't taken, the old one stays: rtfilter: {fault}$")
         self.assertEqual([service.metric(f"rtfilter_{it}") for it in ("table_generation", "loads_failed_total")], [2, 1])
+
+    def test_busy_seconds(self) -> None:
+        """From a read of lines to the next read: a search and its writes, and no wait for lines."""
+        service = self.served(table_of(self.folder, "many", 0, 100_000), "--health", "0")
+        with service.connect() as asker:
+            asker.sendall(b"count all\n")
+            read_lines(asker, 1)
+            until(lambda: service.metric("rtfilter_lines_answered_total") == 1, "a line")
+            before = service.metric("rtfilter_busy_seconds_total")
+            time.sleep(1)
+            asker.sendall(b"count all\n")
+            read_lines(asker, 1)
+            until(lambda: service.metric("rtfilter_lines_answered_total") == 2, "a line")
+            self.assertLess(service.metric("rtfilter_busy_seconds_total") - before, 0.5)
+            begun = time.monotonic()
+            asker.sendall(b"find all near 0 0\n" * 5)
+            time.sleep(0.5)  # in which its replies wait for a reader
+            read_lines(asker, 5 * 100_001)
+            until(lambda: service.metric("rtfilter_lines_answered_total") == 7, "lines")
+            busy = service.metric("rtfilter_busy_seconds_total") - before
+            self.assertTrue(0.4 < busy <= time.monotonic() - begun + 0.5, busy)
 
     def test_times_in_the_log(self) -> None:
         """None where the journal adds them."""

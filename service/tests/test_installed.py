@@ -14,7 +14,7 @@ from typing import Any
 
 from served import BOXES, MOMENT, PROGRAM, ROOT, Case, found, read_lines, talk
 
-PAGE = ROOT / "service/README.md"
+PAGE = ROOT / "docs/service.md"
 UNITS = ROOT / "service/rtfilter.socket", ROOT / "service/rtfilter.service"
 PLAIN = {"PATH": "/usr/bin:/bin"}
 LEAST_EXPOSURE = 1.5
@@ -83,14 +83,17 @@ class Installed(Case):
 
 class QuickStart(Case):
     def test_as_typed(self) -> None:
-        """What the page shows, in a folder with what the repository has, by the system's Python and without pip."""
-        for name in ("service", "python", "examples"):
+        """What the page shows, by the system's Python and without pip."""
+        for name in ("service", "examples"):
             Path(self.folder, name).symlink_to(ROOT / name)
-        Path(self.folder, "build").symlink_to(Path(PROGRAM).parent)
-        served, client, netcat = re.findall(r"^```\n\$ (.*?)^```$", PAGE.read_text(), re.MULTILINE | re.DOTALL)
-        session = found(r"^```pycon\n(.*?)^```$", PAGE.read_text(), re.MULTILINE | re.DOTALL)[1]
+        command_file = Path(self.folder, "bin/rtfilter-serve")
+        command_file.parent.mkdir()
+        command_file.write_text(f'#!/bin/sh\nexec /usr/bin/python3 -B {ROOT}/service/serve.py --program {PROGRAM} "$@"\n')
+        command_file.chmod(0o755)
+        served, netcat = re.findall(r"^```\n\$ ((?:rtfilter-serve|printf).*?)^```$", PAGE.read_text(), re.MULTILINE | re.DOTALL)
         command, *told = served.splitlines()
-        words: dict[str, Any] = {"shell": True, "executable": "/bin/bash", "env": PLAIN, "cwd": self.folder, "text": True}
+        plain = {"PATH": f"{command_file.parent}:{PLAIN['PATH']}"}
+        words: dict[str, Any] = {"shell": True, "executable": "/bin/bash", "env": plain, "cwd": self.folder, "text": True}
         started = subprocess.Popen(f"exec {command}", stderr=subprocess.PIPE, **words)
         with started as service, contextlib.ExitStack() as stack:
             stack.callback(service.kill)  # where something fails, nobody waits for its end
@@ -98,10 +101,6 @@ class QuickStart(Case):
             logged = [service.stderr.readline().rstrip("\n") for _ in told]
             self.assertEqual([MOMENT.sub("", line) for line in logged], [MOMENT.sub("", line) for line in told])
             self.assertTrue(all(map(MOMENT.match, [*logged, *told])))
-            typed = "".join(f"{line[4:]}\n" for line in session.splitlines() if line.startswith((">>> ", "... "))) + "\n"
-            shown = [line for line in session.splitlines() if not line.startswith((">>> ", "... "))]
-            done = subprocess.run(client.strip(), input=typed, stdout=subprocess.PIPE, timeout=60, **words)
-            self.assertEqual(done.stdout.splitlines(), shown)
             command, *shown = netcat.splitlines()
             if has_netcat := shutil.which("nc"):
                 done = subprocess.run(command, stdout=subprocess.PIPE, timeout=60, **words)
@@ -121,12 +120,11 @@ class AsUnit(Case):
                 self.skipTest(f"{tool}: not installed")
         trace = Path(self.folder, "trace")
         before = ["strace", "-f", "-qq", "-o", str(trace), "--interruptible=never"]
-        service = self.served(BOXES, "--tcp", "0", "--health", "0", "--nice", "1", before=before)
+        service = self.served(BOXES, "--tcp", "0", "--health", "0", before=before)
         with service.connect() as asker:
             asker.sendall(b"count all\n")
             read_lines(asker, 1)
             (traced,) = service.programs
-            self.assertEqual(os.getpriority(os.PRIO_PROCESS, traced), os.getpriority(os.PRIO_PROCESS, 0) + 1)
             os.kill(traced, signal.SIGHUP)
             service.logs("^the table is exchanged")
         self.assertEqual(service.get("/health")[0], 200)

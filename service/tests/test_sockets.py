@@ -170,7 +170,7 @@ class Sockets(Case):
         self.assert_well(self.served(env=environment))
 
     def test_a_connection_has_nothing_else(self) -> None:
-        """Its standard input and output, and the log."""
+        """Its standard input and output."""
         service = self.served(BOXES, "--tcp", "0", "--health", "0")
         with service.connect() as asker:
             asker.sendall(b"count all\n")
@@ -178,7 +178,7 @@ class Sockets(Case):
             (process,) = service.connections
             folder = f"/proc/{process}/fd"
             files = {name: os.readlink(f"{folder}/{name}") for name in os.listdir(folder)}
-            self.assertEqual(files, {"0": files["1"], "1": files["1"], "2": str(service.log_file)})
+            self.assertEqual(files, {"0": files["1"], "1": files["1"]})
 
     def test_options_of_tcp(self) -> None:
         """A line isn't held back for the next one, and a peer that is gone for good is noticed some day."""

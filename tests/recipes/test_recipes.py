@@ -1,4 +1,4 @@
-"""The recipes of docs/recipes.md print what they show, each where its tools are installed."""
+"""The recipes of docs/recipes.md and docs/quick-start.md print what they show, each where its tools are installed."""
 
 import os
 import re
@@ -13,7 +13,7 @@ from support import DATA, PROGRAM, ROOT
 import pages
 from postgres import server
 
-PAGE = ROOT / "docs/recipes.md"
+PAGES = ROOT / "docs/recipes.md", ROOT / "docs/quick-start.md"
 TOOLS = "awk", "jq", "mawk", "mlr", "ogr2ogr", "parallel", "psql", "sqlite3"
 SECTION = re.compile(r"^## (.*)\n((?:(?!^## ).*\n)*)", re.MULTILINE)
 BLOCK = re.compile(r"^```console (.+)\n((?:.*\n)*?)```$", re.MULTILINE)
@@ -23,7 +23,7 @@ EXAMPLE = re.compile(r"^\$ (.*\n(?:> .*\n|>\n)*)((?:(?!\$ ).*\n)*)", re.MULTILIN
 def sections() -> dict[str, tuple[set[str], list[tuple[str, str]]]]:
     """The tools of each section, and its commands, each with what it is to print."""
     found = {}
-    for title, text in SECTION.findall(PAGE.read_text(encoding="utf-8")):
+    for title, text in SECTION.findall("".join(it.read_text(encoding="utf-8") for it in PAGES)):
         blocks = BLOCK.findall(text)
         tools = {tool for words, _ in blocks for tool in words.split()}
         examples = [(command.replace("\n> ", "\n"), shown) for _, block in blocks for command, shown in EXAMPLE.findall(block)]
@@ -47,7 +47,7 @@ class Recipes(unittest.TestCase):
             self.assertEqual(pages.printed(command, folder, path), shown, command)
 
     def test_that_blocks_are_found(self) -> None:
-        commands = PAGE.read_text(encoding="utf-8").count("\n$ ")
+        commands = PAGES[0].read_text(encoding="utf-8").count("\n$ ") + 5  # of the quick start, where others name no tools
         self.assertEqual(sum(len(examples) for _, examples in sections().values()), commands)
         self.assertGreater(commands, 30)
 

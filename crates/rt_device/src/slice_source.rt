@@ -1,4 +1,4 @@
-//! Bytes in memory as a source.
+//! In-memory source, with a failure on demand.
 
 ghost use Rattle.std.specs.Prelude.{◌≡◌, ◌+◌, ◌-◌, ◌<◌, ◌≤◌, ◌^◌, ◌↔◌, Some, IfOk, IsErr, OnOk, OnErr, length, min};
 ghost use Rattle.std.specs.Prelude.{unwrap_or};

@@ -3,7 +3,7 @@ use Rattle.std.specs.Prelude.{ℕ, ◌+◌, ◌-◌, List, [], ◌∷◌, length
 use Rattle.std.specs.Option.{option_map_or}
 use Rattle.rt_tree.specs.Packed.{Packed}
 use Rattle.rt_search.specs.Work.{opened_by_search}
-use Rattle.rt_filter.specs.{Lines.{numbered_lines}, Replies.{meaning_of}, Stages.{loaded_tree}, Works.{opened_by_lines}}
+use Rattle.rt_filter.specs.{Lines.{numbered_lines}, Replies.{meaning_of}, Stages.{loaded_tree}, LineCosts.{opened_by_lines}}
 use Rattle.rt_embed.specs.{Findings.{list_of}, PlainQueries.{question_of}, Questions.{measure_of}}
 use Rattle.rt_embed.specs.declared.plain_query.PlainQuery.{PlainQuery}
 use Rattle.rt_embed.specs.declared.question.Measure.{Measure}

@@ -1,13 +1,11 @@
 //! The answers to queries in numbers, in arrays that the caller has.
 //!
-//! The region and the order of a query are matched once, as for a query line (`query.rt` of `rt_filter`), so that the check of
-//! each box is compiled for them. No query is searched for more answers than have a place, and one.
+//! No query is searched for more answers than have a place, and one.
 
 ghost use Rattle.std.specs.Prelude.{◌≡◌, ◌-◌, ◌+◌, ◌<◌, ◌≤◌, ◌++◌, ◌∷◌, [], List, MatchOption, None, Some, length, drop};
 ghost use Rattle.std.specs.Prelude.{false, take, true};
-ghost use Rattle.rt_geo.specs.{Orders.{order_score}, Regions.{region_accepts, region_state}};
 ghost use Rattle.rt_search.specs.{Answers.{Answer, answers}, Work.{CountsOn, opened_by_search}};
-ghost use Rattle.rt_filter.specs.{Replies.{meaning_of}, Reports.{scanned, scored_up_to, searched_in_shape}};
+ghost use Rattle.rt_filter.specs.Replies.{meaning_of};
 ghost use Rattle.rt_embed.specs.{Findings.{Begins, HasFound, answers_to, id_of, score_of}};
 ghost use Rattle.rt_embed.specs.{Costs.{limit_within, opened_by_finds, opened_to_find}};
 ghost use Rattle.rt_embed.specs.{Puts.{IsPut, IsPutBehind, IsWithin, wanted_from}};
@@ -16,7 +14,8 @@ use crate::plain_query::PlainQuery;
 use crate::question::Question;
 use crate::score::Score;
 use crate::vertex::Vertex;
-use rt_geo::{Counted, Disc, Geometry, Guided, Layers, OnLayers, Order, Region, Shape, Unscored};
+use rt_filter::{Job, with_geometry};
+use rt_geo::{Counted, Geometry};
 use rt_search::{Frontier, Search};
 use rt_tree::Tree;
 
@@ -126,19 +125,43 @@ fn find_one(
         CountsOn frontier.opened (opened_to_find tree.now wanted question.now) result.1.opened }
     ensures capacity { result.1.capacity ≡ frontier.capacity }
 {
-    let cut = Cut {
-        order: question.order,
-        limit: limit_within(question.limit, from.skip, ids.len() - from.end, tree.len()),
-        from,
-    };
-    put_on_layers(
+    let limit = limit_within(question.limit, from.skip, ids.len() - from.end, tree.len());
+    put_up_to(tree, frontier, question, limit, from, ids, scores)
+}
+
+// Puts the answers to a question up to a limit, in the place of its own.
+#[inline(always)]
+fn put_up_to(
+    tree: &Tree,
+    frontier: Frontier,
+    question: &Question,
+    limit: Option<u64>,
+    from: Position,
+    ids: &mut [i64],
+    scores: &mut [Score],
+) -> (Position, Frontier)
+    requires capacity { length tree.now.entries ≤ frontier.capacity }
+    requires place { from.end ≤ length ids.old }
+    requires within { IsWithin limit (wanted_from from (length ids.old))
+        (length tree.now.entries) }
+    ensures put { let asked = question.now in
+        let meaning = meaning_of asked.region asked.layers asked.order in
+        IsPut (answers tree.now.entries meaning limit) from result.0
+        ids.old ids.new scores.old scores.new }
+    ensures worked { let asked = question.now in
+        let meaning = meaning_of asked.region asked.layers asked.order in
+        CountsOn frontier.opened (opened_by_search meaning tree.now limit) result.1.opened }
+    ensures capacity { result.1.capacity ≡ frontier.capacity }
+{
+    let mut job = PutAnswers { from, ids, scores };
+    with_geometry(
         tree,
         frontier,
         &question.region,
         question.layers,
-        cut,
-        ids,
-        scores,
+        question.order,
+        limit,
+        &mut job,
     )
 }
 
@@ -159,173 +182,45 @@ fn limit_within(limit: Option<u64>, skip: usize, places: usize, boxes: u32) -> O
     }
 }
 
-// Which of the boxes that a shape accepts are put, and where.
-#[derive(Clone, Copy)]
-struct Cut {
-    order: Order,
-    limit: Option<u64>,
+// The answers to a question, in arrays, from a position on.
+#[derive(Drop)]
+struct PutAnswers<'a> {
     from: Position,
+    ids: &'a mut [i64],
+    scores: &'a mut [Score],
 }
 
-// Puts the boxes of a region that are on some layers.
-fn put_on_layers(
-    tree: &Tree,
-    frontier: Frontier,
-    region: &Region,
-    layers: Layers,
-    cut: Cut,
-    ids: &mut [i64],
-    scores: &mut [Score],
-) -> (Position, Frontier)
-    requires capacity { length tree.now.entries ≤ frontier.capacity }
-    requires place { cut.from.end ≤ length ids.old }
-    requires within { IsWithin cut.limit (wanted_from cut.from (length ids.old))
-        (length tree.now.entries) }
-    ensures put { let meaning = meaning_of region.now layers cut.order in
-        IsPut (answers tree.now.entries meaning cut.limit) cut.from result.0
-        ids.old ids.new scores.old scores.new }
-    ensures worked { let meaning = meaning_of region.now layers cut.order in
-        CountsOn frontier.opened (opened_by_search meaning tree.now cut.limit) result.1.opened }
-    ensures capacity { result.1.capacity ≡ frontier.capacity }
-{
-    // (called, so that it is known which layers the entries have)
-    let _ = tree.len();
-    // (all layers are those of all entries: none is checked)
-    if layers.bits() == u64::MAX {
-        return put_in_region(tree, frontier, region, cut, ids, scores);
-    }
-    let shape = OnLayers {
-        shape: region,
-        layers,
-    };
-    put_in_shape(tree, frontier, shape, cut, ids, scores)
-}
+impl<'a> Job for PutAnswers<'a> {
+    type Outcome = (Position, Frontier);
 
-// Puts the boxes of a region. A polygon is prepared where it can be, and a circle whose order is by the distance from its
-// centre takes one distance for both.
-fn put_in_region(
-    tree: &Tree,
-    frontier: Frontier,
-    region: &Region,
-    cut: Cut,
-    ids: &mut [i64],
-    scores: &mut [Score],
-) -> (Position, Frontier)
-    requires capacity { length tree.now.entries ≤ frontier.capacity }
-    requires place { cut.from.end ≤ length ids.old }
-    requires within { IsWithin cut.limit (wanted_from cut.from (length ids.old))
-        (length tree.now.entries) }
-    ensures put { let meaning = scanned (region_accepts region.now) (order_score cut.order) in
-        IsPut (answers tree.now.entries meaning cut.limit) cut.from result.0
-        ids.old ids.new scores.old scores.new }
-    ensures worked { let searched = searched_in_shape (region_accepts region.now)
-        (region_state region.now) cut.order cut.limit in
-        CountsOn frontier.opened (opened_by_search searched tree.now cut.limit) result.1.opened }
-    ensures capacity { result.1.capacity ≡ frontier.capacity }
-{
-    match region {
-        Region::All(shape) => put_in_shape(tree, frontier, *shape, cut, ids, scores),
-        Region::Window(shape) => put_in_shape(tree, frontier, *shape, cut, ids, scores),
-        Region::Inside(shape) => put_in_shape(tree, frontier, *shape, cut, ids, scores),
-        Region::Covers(shape) => put_in_shape(tree, frontier, *shape, cut, ids, scores),
-        Region::Circle(circle) => match Disc::from_parts(circle, &cut.order) {
-            Some(disc) => {
-                put_by_distance(tree, frontier, disc, cut.limit, cut.from, ids, scores)
-            }
-            None => put_in_shape(tree, frontier, *circle, cut, ids, scores),
-        },
-        Region::Polygon(polygon) => match polygon.prepare() {
-            Some(prepared) => put_in_shape(tree, frontier, &prepared, cut, ids, scores),
-            None => put_in_shape(tree, frontier, polygon, cut, ids, scores),
-        },
-    }
-}
+    ghost runs = { λ job tree limit. (job.from.end ≤ length job.ids.now)
+        × IsWithin limit (wanted_from job.from (length job.ids.now)) (length tree.entries) };
 
-// Puts the boxes that a shape accepts; the order is matched here.
-#[inline(always)]
-fn put_in_shape<S: Shape + Drop>(
-    tree: &Tree,
-    frontier: Frontier,
-    shape: S,
-    cut: Cut,
-    ids: &mut [i64],
-    scores: &mut [Score],
-) -> (Position, Frontier)
-    requires capacity { length tree.now.entries ≤ frontier.capacity }
-    requires place { cut.from.end ≤ length ids.old }
-    requires within { IsWithin cut.limit (wanted_from cut.from (length ids.old))
-        (length tree.now.entries) }
-    ensures put { let meaning = scanned (S.accepts shape) (order_score cut.order) in
-        IsPut (answers tree.now.entries meaning cut.limit) cut.from result.0
-        ids.old ids.new scores.old scores.new }
-    ensures worked { let searched =
-        searched_in_shape (S.accepts shape) (S.state shape) cut.order cut.limit in
-        CountsOn frontier.opened (opened_by_search searched tree.now cut.limit) result.1.opened }
-    ensures capacity { result.1.capacity ≡ frontier.capacity }
-{
-    let Cut { order, limit, from } = cut;
-    match order {
-        Order::ById(rank) => {
-            put_answers(
-                tree,
-                frontier,
-                Guided { shape, rank },
-                limit,
-                from,
-                ids,
-                scores,
-            )
-        }
-        Order::Near(rank) => {
-            put_by_distance(
-                tree,
-                frontier,
-                Guided { shape, rank },
-                limit,
-                from,
-                ids,
-                scores,
-            )
-        }
-        Order::Smallest(rank) => {
-            put_answers(
-                tree,
-                frontier,
-                Guided { shape, rank },
-                limit,
-                from,
-                ids,
-                scores,
-            )
-        }
-    }
-}
+    ghost does = { λ old new frontier found opened_to_find count opened_to_count outcome.
+        (new.ids.ghost_name ≡ old.ids.ghost_name)
+        × (new.scores.ghost_name ≡ old.scores.ghost_name)
+        × IsPut found old.from outcome.0 old.ids.now new.ids.now old.scores.now new.scores.now
+        × CountsOn frontier.opened opened_to_find outcome.1.opened
+        × (outcome.1.capacity ≡ frontier.capacity) };
 
-// Puts the answers of a geometry that scores nodes. Without a limit no node needs a score, and to sort all answers at once
-// takes less time than a queue.
-fn put_by_distance<G: Geometry + Drop>(
-    tree: &Tree,
-    frontier: Frontier,
-    geometry: G,
-    limit: Option<u64>,
-    from: Position,
-    ids: &mut [i64],
-    scores: &mut [Score],
-) -> (Position, Frontier)
-    requires capacity { length tree.now.entries ≤ frontier.capacity }
-    requires place { from.end ≤ length ids.old }
-    requires within { IsWithin limit (wanted_from from (length ids.old))
-        (length tree.now.entries) }
-    ensures put { IsPut (answers tree.now.entries (G.meaning geometry) limit) from result.0
-        ids.old ids.new scores.old scores.new }
-    ensures worked { let searched = scored_up_to limit (G.meaning geometry) in
-        CountsOn frontier.opened (opened_by_search searched tree.now limit) result.1.opened }
-    ensures capacity { result.1.capacity ≡ frontier.capacity }
-{
-    if limit.is_none() {
-        return put_answers(tree, frontier, Unscored(geometry), limit, from, ids, scores);
+    #[inline(always)]
+    fn run<G: Geometry + Drop>(
+        &mut self,
+        tree: &Tree,
+        frontier: Frontier,
+        geometry: G,
+        limit: Option<u64>,
+    ) -> (Position, Frontier) {
+        put_answers(
+            tree,
+            frontier,
+            geometry,
+            limit,
+            self.from,
+            self.ids,
+            self.scores,
+        )
     }
-    put_answers(tree, frontier, geometry, limit, from, ids, scores)
 }
 
 // Puts the answers of one geometry. Out of line, so that a query clears the locals of its own search alone.

@@ -6,7 +6,7 @@ use Rattle.rt_filter.specs.{Pushes.{WasCut}, Replies.{Loaded, any_fault, is_faul
 use Rattle.rt_filter.proofs.LineLemmas.{found, found_none, lines_from-found, lines_from-last}
 use Rattle.rt_filter.proofs.PushLemmas.{AllBut, pushed_cut, pushed_next}
 use Rattle.std.specs.Io.KnownBytes.{Appends}
-use Rattle.rt_filter.specs.Works.{opened_by_line, opened_by_lines}
+use Rattle.rt_filter.specs.LineCosts.{opened_by_line, opened_by_lines}
 use Rattle.rt_search.specs.Work.{CountsOn}
 
 -- the first ends before a line feed

@@ -1,7 +1,8 @@
 mod BatchLemmas
 mod BufferLemmas
 pub mod FindLemmas
-pub mod LayerLemmas
+mod GeometryLemmas
+mod LayerLemmas
 mod LevelLemmas
 mod LineLemmas
 mod ProgressLemmas

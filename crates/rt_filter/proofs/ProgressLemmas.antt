@@ -15,7 +15,7 @@ use Rattle.rt_filter.proofs.{LineLemmas.{completed-ended_none, completed-found, 
 use Rattle.rt_filter.proofs.PushLemmas.{nothing_pushed, pushed_next, pushed_none, pushed_prefix, kept_none, pushed_then}
 use Rattle.rt_filter.proofs.WorkLemmas.{counts_none, counts_then, opened_by_lines-append, opened_by_lines-one}
 use Rattle.rt_search.specs.Work.{CountsOn}
-use Rattle.rt_filter.specs.Works.{opened_by_line, opened_by_lines}
+use Rattle.rt_filter.specs.LineCosts.{opened_by_line, opened_by_lines}
 use Rattle.std.proofs.Common.{rules}
 
 -- ---- replies to some lines and then others

@@ -2,14 +2,14 @@ pub mod Accounts
 pub mod Endings
 pub mod Exchanges
 pub mod Exits
+pub mod Geometries
+pub mod LineCosts
 pub mod Lines
 pub mod Progresses
 pub mod Pushes
 pub mod Replies
-pub mod Reports
 pub mod Runs
 pub mod Stages
-pub mod Works
 pub use Rattle.rt_command.specs.Choices
 pub use Rattle.rt_command.specs.Invocations
 pub use Rattle.rt_device.specs.Devices

@@ -11,7 +11,7 @@ use Rattle.rt_filter.specs.Lines.{is_line_feed, lines_of_parts, longest_line, nu
 use Rattle.rt_filter.specs.Replies.{Loaded, output, tree_of}
 use Rattle.rt_filter.specs.Runs.{loaded_of}
 use Rattle.rt_filter.specs.Progresses.{IsAfter, completed}
-use Rattle.rt_filter.specs.Works.{opened_by_lines}
+use Rattle.rt_filter.specs.LineCosts.{opened_by_lines}
 use Rattle.rt_filter.specs.declared.progress.Progress.{Progress}
 use Rattle.rt_text.specs.declared.run_faults.RunFault.{RunFault}
 use Rattle.rt_text.specs.declared.run_faults.RunFault.TheVariants.{Table, Memory}

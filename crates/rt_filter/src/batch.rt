@@ -2,7 +2,7 @@
 
 ghost use Rattle.std.specs.Prelude.{◌≡◌, ◌+◌, ◌-◌, ◌<◌, ◌≤◌, ◌^◌, ◌∷◌, ℕ, IfOk, OnOk, false, true, length};
 ghost use Rattle.rt_filter.specs.{Lines.{numbered_lines}, Pushes.{Pushed}, Stages.{lines_from, loaded_tree}};
-ghost use Rattle.rt_filter.specs.{Replies.{Loaded, any_fault, output, tree_of}, Works.{opened_by_lines}};
+ghost use Rattle.rt_filter.specs.{Replies.{Loaded, any_fault, output, tree_of}, LineCosts.{opened_by_lines}};
 ghost use Rattle.rt_search.specs.Work.{CountsOn};
 
 use crate::progress::{Progress, line_end};

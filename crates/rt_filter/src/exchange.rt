@@ -1,4 +1,4 @@
-//! Pulls of query bytes, each of which waits for the replies to those before: they are pushed and flushed.
+//! Read-side contract: everything read so far is answered, and the replies are flushed, before the next read.
 
 ghost use Rattle.std.specs.Prelude.{◌≡◌, ◌+◌, ◌-◌, ◌<◌, ◌≤◌, ◌^◌, ℕ, List, Option, IfOk, OnOk, OnErr, false, length};
 ghost use Rattle.rt_device.specs.Devices.{PulledTimes, Pulls};

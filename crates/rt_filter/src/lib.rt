@@ -12,15 +12,19 @@ mod batch;
 mod ending;
 mod exchange;
 mod filter;
+mod job;
+mod measures;
 mod program;
 mod progress;
-mod query;
+mod query_reply;
 mod reply;
 mod serving;
 
 pub use batch::answer_batch;
 pub use ending::Ending;
 pub use filter::{Outcome, load, run, run_std};
+pub use job::{Job, with_geometry};
+pub use measures::{cost_of_count, cost_of_find, count_boxes};
 pub use program::open_and_run;
 pub use rt_command::{ArgFault, Invocation, Name, Settings, settings_of};
 pub use rt_device::{

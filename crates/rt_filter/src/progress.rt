@@ -1,4 +1,4 @@
-//! How far the query lines are answered.
+//! Splits the bytes of queries into lines and answers each: what is kept between two reads, and the loop over the lines.
 
 ghost use Rattle.std.specs.Prelude.{◌≡◌, ◌+◌, ◌-◌, ◌||◌, ◌<◌, ◌≤◌, ◌^◌, ◌++◌, ℕ, List, [], false, true};
 ghost use Rattle.std.specs.Prelude.{IfOk, OnOk, MatchResult, drop, length, take};
@@ -7,11 +7,11 @@ ghost use Rattle.rt_filter.specs.{Lines.{longest_line, numbered_lines}, Pushes.{
 ghost use Rattle.rt_filter.specs.Stages.{line_feed, loaded_tree};
 ghost use Rattle.rt_filter.specs.Progresses.{IsAfter, IsLeft, completed, parsed_of, progress_of};
 ghost use Rattle.rt_filter.specs.Replies.{any_fault, is_fault, output, parsed_line, reply};
-ghost use Rattle.rt_filter.specs.Works.{opened_by_line, opened_by_lines};
+ghost use Rattle.rt_filter.specs.LineCosts.{opened_by_line, opened_by_lines};
 ghost use Rattle.rt_search.specs.Work.{CountsOn};
 ghost use Rattle.rt_text.specs.ReplyLines.{error_line};
 
-use crate::query::push_reply;
+use crate::query_reply::push_reply;
 use crate::reply::{flush_pushed, push_line};
 use memchr::memchr;
 use rt_device::{Sink, WriteFault};
@@ -98,7 +98,7 @@ impl Progress {
         while let Some(at) = line_end(&bytes[searched..]) {
             let end = searched + at;
             let line = &bytes[start..end];
-            frontier = self.answer_line(tree, frontier, line, &mut parsed, &mut is_pushed, sink)?;
+            frontier = self.run_line(tree, frontier, line, &mut parsed, &mut is_pushed, sink)?;
             start = end + 1;
             searched = start;
         }
@@ -134,7 +134,7 @@ impl Progress {
     // Answers a line, which is the next one, and is parsed into `parsed`. `is_pushed` is set where something is pushed; else
     // it is left as it was, and the sink too.
     #[tactic(auto, using(crate::proofs::PushLemmas::nothing_pushed))]
-    fn answer_line<K: Sink>(
+    fn run_line<K: Sink>(
         &mut self,
         tree: &Tree,
         frontier: Frontier,
@@ -203,7 +203,7 @@ impl Progress {
             → (is_pushed.old ≡ false) × (sink.new ≡ sink.old) }
     {
         self.is_too_long = line.len() > LONGEST_LINE;
-        self.answer_line(tree, frontier, line, parsed, is_pushed, sink)
+        self.run_line(tree, frontier, line, parsed, is_pushed, sink)
     }
 
     // Pushes the reply to a faulty line, the last one that is counted.

@@ -77,11 +77,11 @@ fn serve_from<B: Start, S: Source, K: Sink>(
     ensures { IsServed B.at_start (connection_of S.coming S.failed S.pulled
         K.written K.failed K.waits source.new sink.new) turns result }
 {
-    exchange::<B, S, K>(tree, frontier, source, sink, turns)
+    serve_turns::<B, S, K>(tree, frontier, source, sink, turns)
 }
 
 // Serves. The source is pulled from by `pull_next` alone, so only once all that was pulled before is answered and flushed.
-fn exchange<B: Start, S: Exchange<B, K>, K: Sink>(
+fn serve_turns<B: Start, S: Exchange<B, K>, K: Sink>(
     tree: &Tree,
     frontier: Frontier,
     source: &mut S,

@@ -57,7 +57,7 @@ pub struct Verdict {
 
 /// Which boxes a query accepts.
 ///
-/// `docs/write-your-own-geometry.md` shows how a type of one's own becomes a shape.
+/// `docs/internals/own-geometry.md` shows how a type of one's own becomes a shape.
 pub trait Shape {
     /// Whether a box is accepted: the meaning of the shape.
     ghost accepts: { Self → Extent → Bool };
@@ -104,7 +104,7 @@ pub trait Rank {
 /// A query function: which boxes a query accepts, and the order of its answers.
 ///
 /// [`Guided`](crate::Guided) makes one of a [`Shape`] and a [`Rank`];
-/// `docs/write-your-own-geometry.md` shows how to write one whole.
+/// `docs/internals/own-geometry.md` shows how to write one whole.
 pub trait Geometry {
     /// Which boxes are accepted, the score of each of them, and what `check` answers.
     ghost meaning: { Self → Meaning };

@@ -1,6 +1,6 @@
 -- The children of a node, one at a time, and what may be asked about them.
 use Rattle.std.proofs.Common.{◌≡◌, ◌<◌, ◌≤◌, ◌+◌, ◌-◌, ◌^◌, ℕ, zero, suc, true, List, length, map, slice_get, Some}
-use Rattle.std.proofs.{Common.{take, drop, get_or, refl, sym, ◌∙◌, arith, rules}, lemmas.List.{get_or-map}}
+use Rattle.std.proofs.{Common.{take, drop, get_or, refl, sym, ◌∙◌, ap, arith, rules}, lemmas.List.{get_or-map}}
 use Rattle.std.proofs.lemmas.List.{get_or-take, get_or-drop, get_or_default, length-map, length-take, length-drop}
 use Rattle.std.proofs.lemmas.{List.{take_all, Elements.{All-from_recursion}}, Option.{slice_get-get_or}}
 use Rattle.rt_geo.specs.{Boxes.{IsRect, inside, plane}, Entries.{HasBox, HasLayer}, Laws.{Meaning, Extent, IsHonest}}
@@ -131,9 +131,16 @@ module _ {t : Packed} {meaning : Meaning} {number : ℕ} {v : Verdict}
   pub children_inside : n.first + n.count ≤ length t.nodes
   children_inside = search (rules, subtree_level)
 
+  pub is_high : 2 ≤ (node_at t number).level
+  is_high = search (rules, subtree_level)
+
   pub children_of : {children : List PlainNode} → children ≡ map without_layers (child_nodes t n)
       → HasChildren t number n children
   children_of lent = search (rules, subtree_level, length-map, part_length)
+
+-- a node above level 1 isn't of that level
+pub not_low : {n m : Node} → n ≡ m → 2 ≤ m.level → n.level ≡ 1 → ⊥
+not_low is high low = omega (arith, ap (λ n. n.level) is)
 
 pub asked : {t : Packed} {number : ℕ} {n : Node} {children : List PlainNode} → HasChildren t number n children → (i : ℕ)
     (v : Verdict) {k : ℕ} {x : PlainNode} {whole : Node} {info : Info} → i < length children

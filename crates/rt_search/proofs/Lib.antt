@@ -15,6 +15,7 @@ pub mod Marked
 pub mod Merging
 pub mod OrderedLists
 pub mod Orders
+pub mod Pendings
 pub mod PooledItems
 pub mod Pools
 pub mod Sizes

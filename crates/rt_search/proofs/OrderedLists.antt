@@ -4,7 +4,7 @@ use Rattle.std.proofs.{Common.{Ordering, IsPermutation}, lemmas.{Bool.{cond_both
 use Rattle.std.proofs.lemmas.{List.Sums.{sum_by-cons}, Map.Lookups.{CmpEqualImpliesEq}}
 use Rattle.std.specs.{Cmp.{IsTotalOrder}, List.{AllByRecursion, sum_by}, Ordering.{is_gt, is_lt}}
 use Rattle.rt_tree.specs.Sorting.{put, sorted}
-use Rattle.rt_tree.proofs.SortingLemmas.{sorted-IsPermutation}
+use Rattle.rt_tree.proofs.{Permutations.{along_permutation}, SortingLemmas.{sorted-IsPermutation}}
 use Rattle.rt_search.specs.Remaining.{put_all}
 
 -- an order, by the test whether one comes after another; a list and its rearrangement, in order, are one
@@ -42,6 +42,12 @@ module _ {X : Type 0} (cmp : X → X → Ordering) (o : IsOrder cmp) where
   pub put_all-put_all : (xs ys zs : List X) → put_all cmp xs (put_all cmp ys zs) ≡ put_all cmp ys (put_all cmp xs zs)
   put_all-put_all [] ys zs = refl
   put_all-put_all (x ∷ xs) ys zs = grind (arith, put_all-put, put_all-put_all xs ys zs)
+
+  -- elements may be put in any order
+  pub put_all-IsPermutation : (zs xs ys : List X) → IsPermutation xs ys → put_all cmp xs zs ≡ put_all cmp ys zs
+  put_all-IsPermutation zs =
+      along_permutation (λ xs ys. put_all cmp xs zs ≡ put_all cmp ys zs) (λ xs. refl) (λ x xs ys h. ap (put cmp x) h)
+      (λ x y xs. put-put x y (put_all cmp xs zs)) (λ xs ys us h k. h ∙ k)
 
   pub put_all-nil : (xs : List X) → put_all cmp xs [] ≡ sorted cmp xs
   put_all-nil [] = refl

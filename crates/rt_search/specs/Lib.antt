@@ -5,6 +5,7 @@ pub mod Kept
 pub mod Lemmas
 pub mod Limits
 pub mod Marking
+pub mod Pending
 pub mod Pooling
 pub mod Progress
 pub mod Remaining

@@ -1,12 +1,11 @@
 -- What a walk over the nodes leaves with its visitor. Nothing that a public call promises speaks of this.
-use Rattle.std.specs.Prelude.{◌≡◌, ◌+◌, ◌-◌, ◌<◌, ◌≤◌, ◌==◌, ℕ, ℤ, Bool, if◌then◌else◌, List, [], ◌∷◌}
-use Rattle.std.specs.Prelude.{length, take}
-use Rattle.rt_geo.specs.Laws.{IsQuestion, extent_of, Meaning}
-use Rattle.rt_geo.specs.declared.geometry.Info.{Info}
+use Rattle.std.specs.Prelude.{◌≡◌, ◌+◌, ◌-◌, ◌≤◌, ◌==◌, ℕ, ℤ, Bool, if◌then◌else◌, List, [], ◌∷◌}
+use Rattle.std.specs.Prelude.{length, take, zero, suc, ◌++◌, IsPermutation}
+use Rattle.rt_geo.specs.Laws.{Meaning}
 use Rattle.rt_geo.specs.declared.geometry.Verdict.{Verdict}
 use Rattle.rt_geo.specs.declared.geometry.Within.{Within}
 use Rattle.rt_geo.specs.declared.geometry.Within.TheVariants.{Not, Fully}
-use Rattle.rt_tree.specs.Packed.{Packed, IsSubtree, child_entries, entries_under, extent_of_node, node_at}
+use Rattle.rt_tree.specs.Packed.{Packed, child_entries, entries_under, node_at}
 use Rattle.rt_tree.specs.declared.tree.Node.{Node}
 use Rattle.rt_search.specs.Answers.{Answer, scored}
 use Rattle.rt_search.specs.Remaining.{height_at}
@@ -26,6 +25,17 @@ answers_under t meaning number = scored (entries_under t (height_at t number) (n
 abbrev pub answers_among : Packed → Meaning → Node → (so_many : ℕ) → List Answer
 answers_among t meaning n so_many = scored (take so_many (child_entries t n)) meaning
 
+-- the verdict on a child of a node above level 1 that has this verdict
+abbrev pub verdict_of_child : Meaning → Packed → Verdict → Node → (place : ℕ) → Verdict
+verdict_of_child meaning t of_node n i = meaning.verdict (info_of_node t of_node (node_at t (n.first + i)))
+
+-- the answers under the first so many of its children whose verdicts pass the test
+abbrev pub answers_where : (picks : Verdict → Bool) → Meaning → Packed → Verdict → Node → (so_many : ℕ) → List Answer
+answers_where picks meaning t of_node n zero = []
+answers_where picks meaning t of_node n (suc i) =
+    answers_where picks meaning t of_node n i
+    ++ (if picks (verdict_of_child meaning t of_node n i) then answers_under t meaning (n.first + i) else [])
+
 -- those of a whole tree, as its nodes have them: the last node is the root
 abbrev pub answers_in_tree : Packed → Meaning → List Answer
 answers_in_tree t meaning = if length t.nodes == 0 then [] else answers_under t meaning (length t.nodes - 1)
@@ -41,6 +51,11 @@ pub record IsKnown (within : Within) (size : ℕ) (answers : List Answer) : Type
 abbrev pub HasTaken : {S : Type 0} → (takes : S → Answer → S → Type 0) → (old : S) → List Answer → (new : S) → Type 0
 HasTaken takes old [] new = new ≡ old
 HasTaken {S} takes old (a ∷ answers) new = (s : S) × (takes old a s × HasTaken takes s answers new)
+
+-- and so, in some order
+abbrev pub HasTakenAll : {S : Type 0} → (takes : S → Answer → S → Type 0) → (old : S) → List Answer → (new : S) → Type 0
+HasTakenAll takes old answers new =
+    (taken : List Answer) × (IsPermutation taken answers × HasTaken takes old taken new)
 
 -- each takes at most a place
 abbrev pub IsFilling : {S : Type 0} → (takes : S → Answer → S → Type 0) → (room : S → ℕ) → Type 0
@@ -62,12 +77,3 @@ abbrev pub work_of_child : (opens : Verdict → Bool) → (cost : Node → ℕ) 
 work_of_child opens cost meaning t of_node below child =
     let of_child = meaning.verdict (info_of_node t of_node child) in
     if opens of_child then reached opens cost meaning t below of_child child else 0
-
--- what holds of a node that may be asked about
-pub record IsCheckable (t : Packed) (meaning : Meaning) (number : ℕ) (info : Info) : Type 0 where
-  pub inside : number < length t.nodes
-  pub tree : IsSubtree t (height_at t number) (node_at t number)
-  pub low : (node_at t number).level ≤ 24
-  pub high : 0 < info.level
-  pub extent : extent_of info ≡ extent_of_node (node_at t number)
-  pub question : IsQuestion meaning.accepts info

@@ -70,6 +70,8 @@ impl Visitor for Tally {
             }
         }
     }
+
+    ghost drops = { Prim.search rules };
 }
 
 /// Counts the entries that are accepted. A node that is FULLY adds its size, and isn't opened. What waited in the

@@ -25,6 +25,7 @@ mod item;
 mod keys;
 mod marks;
 mod opening;
+mod pending;
 mod pool;
 mod queue;
 mod search;

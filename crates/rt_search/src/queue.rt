@@ -1,5 +1,6 @@
 //! What waits in a best-first search.
 
+ghost use Rattle.std.proofs.Common.{rules};
 ghost use Rattle.std.specs.Prelude.{◌≡◌, ◌-◌, ◌<◌, ◌≤◌, ◌^◌, [], false, length, IfOk, IfSome, MatchBool, MatchOption};
 ghost use Rattle.std.specs.Prelude.{None, true};
 ghost use Rattle.rt_search.specs.{Items.{Limited, item_at, item_of}, Joining.{join_node}, Kept.{IsAhead, IsQueue}};
@@ -135,6 +136,8 @@ impl Visitor for Queue {
     fn visit_node(&mut self, verdict: Verdict, _size: u32) -> bool {
         !matches!(verdict.within, Within::Not)
     }
+
+    ghost drops = { Prim.search rules };
 }
 
 // Takes the least of those whose score is one word.

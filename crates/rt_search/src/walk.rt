@@ -5,13 +5,16 @@
 //! [`Collector`] alone.
 
 ghost use Rattle.std.specs.Prelude.{◌≡◌, ◌+◌, ◌-◌, ◌<◌, ◌≤◌, ◌^◌, ℕ, Bool, List, [], if◌then◌else◌, length};
-ghost use Rattle.rt_geo.specs.{Laws.{Extent}, declared.geometry.Verdict.{Verdict}};
+ghost use Rattle.std.specs.Prelude.{false, not};
+ghost use Rattle.rt_geo.specs.{Laws.{Extent, IsUnscored, estimate_of}, declared.geometry.Verdict.{Verdict}};
+ghost use Rattle.rt_geo.specs.declared.geometry.Within.TheVariants.{Not};
 ghost use Rattle.rt_tree.specs.Packed.{IsSound, node_at, root_of};
-ghost use Rattle.rt_search.specs.{Answers.{Answer}, Remaining.{IsOpenable, IsOpenableLeaf}, Walking.{HasTaken}};
-ghost use Rattle.rt_search.specs.Walking.{IsCheckable, IsFilling, IsKnown, answer_if, answers_among, answers_in_tree};
-ghost use Rattle.rt_search.specs.Walking.{answers_under, work_at_child, work_under};
+ghost use Rattle.rt_search.specs.{Answers.{Answer}, Pending.{HasWaiting}, Remaining.{IsOpenable, IsOpenableLeaf}};
+ghost use Rattle.rt_search.specs.Walking.{HasTaken, HasTakenAll, IsFilling, IsKnown, answer_if, answers_among};
+ghost use Rattle.rt_search.specs.Walking.{answers_in_tree, answers_under, answers_where, verdict_of_child, work_under};
 ghost use Rattle.rt_search.specs.Work.{info_under, its_children, one_node, reached_from_root};
 
+use crate::pending::Pending;
 use rt_geo::{Bounds, Counted, Geometry, Info, Layers, Verdict, Within};
 use rt_tree::{Node, NodeNo, Tree};
 
@@ -72,6 +75,9 @@ pub(crate) trait Visitor: Collector {
         ensures opens { result ≡ opens verdict }
         ensures taken { (answers : List Answer) → IsKnown verdict.within size answers
             → HasTaken Self.takes self.old (if result then [] else answers) self.new };
+
+    /// No node is opened that is [`Within::Not`].
+    ghost drops: { (v : Verdict) → v.within ≡ Not → opens v ≡ false };
 }
 
 /// What is asked about a child of a node that has this verdict.
@@ -91,7 +97,7 @@ pub fn info_under(tree: &Tree, parent: Verdict, bounds: Bounds, layers: Layers, 
 }
 
 /// Walks over a tree from its root, which isn't asked about, and returns how many nodes were opened. All that is
-/// accepted is taken. A visitor needs room for as many entries as there are, by what holds of each tree.
+/// accepted is taken, in whatever order. A visitor needs room for as many entries as there are, by what holds of each tree.
 pub(crate) fn walk<V: Visitor, G: Geometry>(
     tree: &Tree,
     visitor: &mut V,
@@ -100,7 +106,7 @@ pub(crate) fn walk<V: Visitor, G: Geometry>(
     requires room { IsSound tree.now → length tree.now.entries ≤ V.room visitor.old }
     requires asked { counted.old.asked ≡ 0 }
     ensures sound { IsSound tree.now }
-    ensures taken { HasTaken V.takes visitor.old
+    ensures taken { HasTakenAll V.takes visitor.old
         (answers_in_tree tree.now (G.meaning counted.old.geometry)) visitor.new }
     ensures opened { result
         ≡ reached_from_root V.opens one_node (G.meaning counted.old.geometry) tree.now }
@@ -118,8 +124,7 @@ pub(crate) fn walk<V: Visitor, G: Geometry>(
     opened
 }
 
-// Opens a node, and goes on under it.
-#[cycle(walk)]
+// Opens a node, and goes on under it: all its children are checked before the first of them is opened.
 pub(crate) fn walk_under<V: Visitor, G: Geometry>(
     tree: &Tree,
     visitor: &mut V,
@@ -135,7 +140,7 @@ pub(crate) fn walk_under<V: Visitor, G: Geometry>(
         (G.meaning counted.old.geometry) tree.now parent number.number ≤ 2 ^ 32 }
     requires asked { counted.old.asked + work_under V.opens its_children
         (G.meaning counted.old.geometry) tree.now parent number.number ≤ 2 ^ 32 }
-    ensures taken { let g = counted.old.geometry in HasTaken V.takes visitor.old
+    ensures taken { let g = counted.old.geometry in HasTakenAll V.takes visitor.old
         (answers_under tree.now (G.meaning g) number.number) visitor.new }
     ensures opened { opened.new ≡ opened.old + work_under V.opens one_node
         (G.meaning counted.old.geometry) tree.now parent number.number }
@@ -145,56 +150,82 @@ pub(crate) fn walk_under<V: Visitor, G: Geometry>(
 {
     let node = tree.node(number);
     *opened += 1;
+    // (in a local of its own, whose number of checks stays in a register)
+    let mut own = counted.take();
     if node.level == 1 {
-        // (in a local of its own, whose number of checks stays in a register)
-        let mut own = counted.take();
         visitor.visit_entries(tree, &mut own, node, parent);
         *counted = own;
         return;
     }
-    let first = node.first;
     // (the level of each child, computed and not read, so that the compiler sees that none is an entry)
     let level = node.level - 1;
+    let has_scores = G::scores_nodes();
+    let mut pending = Pending::new();
+    check_children(
+        tree,
+        visitor,
+        &mut own,
+        &mut pending,
+        number,
+        level,
+        parent,
+        has_scores,
+    );
+    *counted = own;
+    while let Some((place, verdict)) = pending.take(has_scores) {
+        let number = NodeNo::new(node.first + place as u32);
+        walk_under(tree, visitor, counted, opened, number, verdict);
+    }
+}
+
+// Checks each child of a node above level 1: the children are on this level. Those that are opened wait; of the others the
+// visitor takes what is accepted.
+#[inline(always)]
+fn check_children<V: Visitor, G: Geometry>(
+    tree: &Tree,
+    visitor: &mut V,
+    counted: &mut Counted<'_, G>,
+    pending: &mut Pending,
+    number: NodeNo,
+    level: u8,
+    parent: Verdict,
+    has_scores: bool,
+)
+    requires sound { IsSound tree.now }
+    requires node { IsOpenable tree.now (G.meaning counted.old.geometry) number.number parent }
+    requires high { 1 ≤ level }
+    requires level { level + 1 ≡ (node_at tree.now number.number).level }
+    requires none { pending.old.places ≡ 0 }
+    requires clear { pending.old.full ≡ 0 }
+    requires scores { has_scores ≡ false
+        → IsUnscored (estimate_of (G.meaning counted.old.geometry)) }
+    requires room { (node_at tree.now number.number).size ≤ V.room visitor.old }
+    requires asked { counted.old.asked + (node_at tree.now number.number).count ≤ 2 ^ 32 }
+    ensures waiting { let n = node_at tree.now number.number in
+        let verdict = verdict_of_child (G.meaning counted.old.geometry) tree.now parent n in
+        HasWaiting has_scores V.opens verdict 0 n.count pending.new }
+    ensures taken { let n = node_at tree.now number.number in HasTaken V.takes visitor.old
+        (answers_where (λ v. not (V.opens v)) (G.meaning counted.old.geometry) tree.now parent n
+        n.count) visitor.new }
+    ensures geometry { counted.new.geometry ≡ counted.old.geometry }
+    ensures asked { counted.new.asked
+        ≡ counted.old.asked + (node_at tree.now number.number).count }
+{
+    let node = tree.node(number);
+    let first = node.first;
     let children = tree.child_nodes(node);
     for (i, child) in children.iter().enumerate() {
         let number = NodeNo::new(first + i as u32);
         let whole = tree.node(number);
         let info = info_under(tree, parent, child.bounds, whole.layers, level);
-        walk_child(tree, visitor, counted, opened, number, child.size, &info);
-    }
-}
-
-// Asks about a node, and opens it where the visitor says so.
-#[cycle(walk)]
-fn walk_child<V: Visitor, G: Geometry>(
-    tree: &Tree,
-    visitor: &mut V,
-    counted: &mut Counted<'_, G>,
-    opened: &mut u64,
-    number: NodeNo,
-    size: u32,
-    info: &Info,
-)
-    requires sound { IsSound tree.now }
-    requires node { IsCheckable tree.now (G.meaning counted.old.geometry) number.number info.now }
-    requires size { size ≡ (node_at tree.now number.number).size }
-    requires room { size ≤ V.room visitor.old }
-    requires opened { let meaning = G.meaning counted.old.geometry in opened.old + work_at_child
-        V.opens one_node meaning tree.now (meaning.verdict info.now) number.number ≤ 2 ^ 32 }
-    requires asked { let meaning = G.meaning counted.old.geometry in
-        counted.old.asked + 1 + work_at_child V.opens its_children meaning tree.now
-        (meaning.verdict info.now) number.number ≤ 2 ^ 32 }
-    ensures taken { let g = counted.old.geometry in HasTaken V.takes visitor.old
-        (answers_under tree.now (G.meaning g) number.number) visitor.new }
-    ensures opened { let meaning = G.meaning counted.old.geometry in opened.new ≡ opened.old
-        + work_at_child V.opens one_node meaning tree.now (meaning.verdict info.now) number.number }
-    ensures asked { let meaning = G.meaning counted.old.geometry in
-        counted.new.asked ≡ counted.old.asked + 1 + work_at_child V.opens its_children meaning
-        tree.now (meaning.verdict info.now) number.number }
-    ensures geometry { counted.new.geometry ≡ counted.old.geometry }
-{
-    let verdict = counted.check(info);
-    if visitor.visit_node(verdict, size) {
-        walk_under(tree, visitor, counted, opened, number, verdict);
+        let verdict = counted.check(&info);
+        // (dropped first, so that no more is worked out of its state)
+        if verdict.within == Within::Not {
+            continue;
+        }
+        pending.keep(i, verdict, has_scores);
+        if visitor.visit_node(verdict, child.size) {
+            pending.put(i);
+        }
     }
 }

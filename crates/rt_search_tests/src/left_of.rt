@@ -1,4 +1,4 @@
-//! A shape of one's own: an example of `docs/write-your-own-geometry.md`.
+//! A shape of one's own: an example of `docs/internals/own-geometry.md`.
 
 use rt_geo::{Info, Shape, Within};
 

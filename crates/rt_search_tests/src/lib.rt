@@ -1,7 +1,9 @@
 //! Tests of `rt_search` through its public calls, and of a shape, a geometry and a search of one's own:
-//! `docs/write-your-own-geometry.md` shows their code.
+//! `docs/internals/own-geometry.md` shows their code.
 #![tactic(auto)]
 
+#[cfg(test)]
+mod checks;
 #[cfg(test)]
 mod expect;
 #[cfg(test)]

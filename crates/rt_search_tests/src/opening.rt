@@ -121,7 +121,7 @@ fn layers_open_by_number(rt: HostRuntime) {
 }
 
 // All boxes of one layer.
-fn all_on(layer: u8) -> Guided<OnLayers<All>, ById>
+pub fn all_on(layer: u8) -> Guided<OnLayers<All>, ById>
     requires { layer ≤ 63 }
 {
     let layers = Layers::of(layer);

@@ -482,12 +482,11 @@ fn at_equal_scores_the_lowest_id_comes_first(rt: HostRuntime) {
     expect_with_limits(&rt, &AT_THE_ORIGIN, &near(3, 4), &EACH_AT_25);
 }
 
-// The greatest x of what is shown, in the order in which nodes are opened and their children stand: where nodes have no
-// scores, from the root downwards.
+// The greatest x of what is shown, in the order in which nodes are opened and their children stand.
 #[test]
 fn nodes_are_opened_by_score_and_number_or_in_turn(rt: HostRuntime) {
-    // root: d: a, c; e: b
-    let shown = [30, 10, -1, 10, 30, 30, 15, 15, 15, 12];
+    // root: d, e; d: a, c; a, c; e: b; b
+    let shown = [30, 15, 10, 30, -1, 10, 30, 15, 15, 12];
     expect_shown(&rt, all_by_id(), None, &ALL_BY_ID, shown);
     expect_shown(&rt, all_by_id(), Some(2), &FIRST_TWO, shown);
     // root; e, b; d, a; never c
@@ -507,8 +506,8 @@ fn expect_shown<G: Geometry + Drop>(
     expect_eq(rt, watched.shown(), shown);
 }
 
-// What is shown for the window. d: a, never c; e: b
-static SHOWN_FOR_WINDOW: [i32; 10] = [30, 10, -1, 10, 30, 15, 15, 15, 12, 0];
+// What is shown for the window. root: d, e; d: a, c; a, never c; e: b; b
+static SHOWN_FOR_WINDOW: [i32; 10] = [30, 15, 10, 30, -1, 10, 15, 15, 12, 0];
 
 // The same of a count. No box is shown twice.
 #[test]

@@ -1,4 +1,4 @@
-//! A search for a geometry of one's own: an example of `docs/write-your-own-geometry.md`.
+//! A search for a geometry of one's own: an example of `docs/internals/own-geometry.md`.
 
 ghost use Rattle.std.specs.Prelude.{◌≡◌, ◌≤◌, length};
 

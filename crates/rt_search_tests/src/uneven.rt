@@ -1,4 +1,4 @@
-//! A geometry of one's own: an example of `docs/write-your-own-geometry.md`.
+//! A geometry of one's own: an example of `docs/internals/own-geometry.md`.
 
 use rt_geo::{Geometry, Info, Verdict, Within};
 

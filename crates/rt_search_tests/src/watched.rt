@@ -27,6 +27,16 @@ impl<G: Geometry> Watched<G> {
         self.shown.get()
     }
 
+    /// The level and the greatest x of the box that it was shown at a place, counted from 0.
+    pub fn at(&self, place: usize) -> Option<(u8, i32)> {
+        if place >= self.checks.get() {
+            return None;
+        }
+        let max_x = self.shown.get().get(place).copied()?;
+        let level = self.levels.get().get(place).copied()?;
+        Some((level, max_x))
+    }
+
     /// Which of the boxes it was shown is the first one of a level with a greatest x.
     pub fn place_of(&self, level: u8, max_x: i32) -> Option<usize> {
         let shown = self.shown.get();

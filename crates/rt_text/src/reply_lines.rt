@@ -1,4 +1,4 @@
-//! The lines that query lines are answered with.
+//! Formats reply lines.
 
 ghost use Rattle.std.specs.Prelude.{◌≡◌, ◌≤◌, length};
 ghost use Rattle.rt_text.specs.ReplyLines.{answer_line, error_line, fault_text, level_line, ok_line};

@@ -243,6 +243,17 @@ pack_of-IsSound fanout (e ∷ entries) several table =
 
 -- ---- the children of a node
 
+few_under : (t : Packed) (h : ℕ) (n : Node) → IsSubtree t h n → n.count ≤ t.fanout
+few_under t zero n s = s.few
+few_under t (suc h) n s = s.few
+
+-- no node has more of them than the fanout
+pub few_children : (t : Packed) (number : ℕ) (n : Node) → IsSound t → number < length t.nodes
+    → slice_get t.nodes number ≡ Some n → n.count ≤ t.fanout
+few_children t number n s there is =
+    let found = get_or_from_slice_get t.nodes number n no_node is in
+    omega (arith, ap (λ m. m.count) found, few_under t _ (node_at t number) (s.nodes number no_node there))
+
 -- a child of a node above level 1 is a node of the tree
 pub child_inside : (t : Packed) (number index : ℕ) (n : Node) → IsSound t → number < length t.nodes
     → slice_get t.nodes number ≡ Some n

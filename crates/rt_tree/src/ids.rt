@@ -1,4 +1,5 @@
-//! The ids of a table's entries, of which one is found in O(log n) whatever they are.
+//! Set of a table's ids: a sorted array of those that are loaded, a B-tree of those pushed later. A lookup takes O(log n)
+//! whatever the ids are.
 
 ghost use Rattle.std.specs.{List.{list_any}, List.Sorted.{IsStrictlySortedBy}, Ordering.{int_cmp, int_eq}};
 ghost use Rattle.std.specs.Prelude.{◌≡◌, ◌≤◌, ◌||◌, ◌↔◌, ℤ, None, IfOk, IfErr, OnOk, OnErr, length, IsTrue, false, All};

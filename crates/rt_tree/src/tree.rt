@@ -71,7 +71,7 @@ pub struct Tree {
 }
 
 impl Model for Tree {
-    ghost use Rattle.std.specs.Prelude.{◌≡◌, length};
+    ghost use Rattle.std.specs.Prelude.{◌≡◌, ◌≤◌, length};
     ghost use Rattle.rt_tree.specs.{Levels.{level_sizes}, Packed.{Packed, IsSound}, Packing.{pack_of}};
 
     ghost Value = { Packed };
@@ -81,7 +81,7 @@ impl Model for Tree {
     ghost invariant = { λ t.
         let tree : Packed = record { fanout = t.fanout; entries = t.leaves; nodes = t.nodes } in
         IsSound tree × (tree ≡ pack_of t.fanout t.leaves)
-        × (t.levels ≡ level_sizes (length t.leaves) t.fanout) };
+        × (t.levels ≡ level_sizes (length t.leaves) t.fanout) × (t.fanout ≤ 64) };
 }
 
 impl Tree {
@@ -177,7 +177,8 @@ impl Tree {
     #[inline(always)]
     pub fn node(&self, no: NodeNo) -> Node
         requires { no.number < length self.now.nodes }
-        ensures { result ≡ node_at self.now no.number }
+        ensures value { result ≡ node_at self.now no.number }
+        ensures few { result.count ≤ 64 }
     {
         self.nodes.get(no.number as usize)
     }

@@ -11,7 +11,7 @@ use Rattle.rt_embed.specs.declared.plain_query.InvalidQuery.TheVariants as inval
 use Rattle.rt_embed.specs.declared.plain_query.PlainQuery.{PlainQuery}
 use Rattle.rt_embed.specs.declared.question.Measure.{Measure}
 use Rattle.rt_embed.specs.declared.vertex.Vertex.{Vertex}
-use Rattle.rtfilter_c.specs.declared.numbers.Progress.{Progress}
+use Rattle.rtfilter_c.specs.declared.plain_queries.FindProgress.{FindProgress}
 
 -- why no more queries are answered, by the code
 abbrev pub stop_of : (code : ℕ) → Stop
@@ -33,7 +33,7 @@ abbrev pub cause_of : (vertices : List Vertex) → PlainQuery → ℕ
 cause_of vertices query = option_map_or number_of (result_err (judged vertices query)) 0
 
 -- what was found, and why no more
-abbrev pub finds : Progress → Stop → Found
+abbrev pub finds : FindProgress → Stop → Found
 finds progress stop = record { done = progress.done; found = progress.found; stop = stop }
 
 -- queries are measured: with code 0 all of them, with code 7 those before the first that asks no question

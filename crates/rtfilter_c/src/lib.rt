@@ -8,6 +8,6 @@ mod about;
 mod codes;
 mod fault;
 mod invalid;
-mod numbers;
 mod opening;
+mod plain_queries;
 mod texts;

@@ -10,13 +10,12 @@ import threading
 import unittest
 from pathlib import Path
 
+from prefork import library_of
+
 HERE = Path(__file__).resolve().parent.parent
 ROOT = HERE.parent.parent
 PROGRAM = os.environ["RTFILTER_PROGRAM"]
 LONG = 120  # seconds that a virtual machine may take on a busy machine
-sys.path.append(str(ROOT / "service"))
-
-from prefork import library_of
 
 LINES = ["find window 0 10 0 10", "nearest 1 -2147483648 -2147483648", "count all", "levels", "find what"]
 COMMANDS = {

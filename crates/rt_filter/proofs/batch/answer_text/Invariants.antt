@@ -1,5 +1,5 @@
 use Rattle.std.proofs.Common.{◌≡◌, ◌+◌, ◌%◌, ◌^◌, ◌≤◌, ◌||◌, false, length, true}
-use Rattle.rt_filter.specs.Works.{opened_by_lines}
+use Rattle.rt_filter.specs.LineCosts.{opened_by_lines}
 use Rattle.rt_filter.specs.{Lines.{numbered_lines}, Replies.{any_fault, output}, Stages.{lines_from, loaded_tree}}
 use Rattle.rt_filter.proofs.PushLemmas.{AllBut}
 use Rattle.rt_filter.proofs.batch.answer_text.Given as goal

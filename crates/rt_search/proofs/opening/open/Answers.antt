@@ -1,5 +1,5 @@
 use Rattle.std.proofs.Common.{arith, rules}
-use Rattle.rt_search.proofs.{Collectors.{entries_join}, UnderWay.{go_on, walk_on}}
+use Rattle.rt_search.proofs.{Collectors.{entries_join_all}, UnderWay.{go_on, walk_on}}
 use Rattle.rt_search.proofs.opening.open.Goals as goal
 
 -- ---- one node
@@ -49,7 +49,7 @@ returns g c =
     let law = g.met.G.Geometry.lawful geometry in
     let unscored = c.scores_nodes.ensures (search rules) geometry in
     let e = rw c.verdict_on-parent.ensures at c.walk_under.ensures in
-    let joined = entries_join c.args.queue.now c.walk_under.new.visitor _ e.taken in
+    let joined = entries_join_all c.args.queue.now c.walk_under.new.visitor _ e.taken in
     let some = (walk_on law c.args.tree.now unscored c.requires.state.1).some in
     record {
       state = λ to_come out. rw (e.opened, e.asked, joined.wanted)

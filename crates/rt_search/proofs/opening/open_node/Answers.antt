@@ -20,9 +20,9 @@ node-whole-requires g c = grind (arith, common_steps)
 
 pub check-requires : goal.check-requires
 check-requires g c =
-    let here = children_of c.requires.node c.node-node.ensures c.if-node-eq1.false c.child_nodes-children.ensures in
+    let here = children_of c.requires.node c.node-node.ensures.value c.if-node-eq1.false c.child_nodes-children.ensures in
     let k = asked here c.loop-i.i c.verdict_on-parent.result c.loop-i-test.true c.index-children-i.is c.new-number.ensures
-    c.node-whole.ensures c.info_under-info.ensures in
+    c.node-whole.ensures.value c.info_under-info.ensures in
     let tree = c.args.tree.now in
     let meaning = g.G.Geometry.meaning c.args.counted.now.geometry in
     let parent = c.verdict_on-parent in
@@ -37,14 +37,14 @@ check-requires g c =
 
 pub put_node-requires : goal.put_node-requires
 put_node-requires g c =
-    let here = children_of c.requires.node c.node-node.ensures c.if-node-eq1.false c.child_nodes-children.ensures in
+    let here = children_of c.requires.node c.node-node.ensures.value c.if-node-eq1.false c.child_nodes-children.ensures in
     search (rules, length-join_nodes)
 
 pub loop-i-preserved : goal.loop-i-preserved
 loop-i-preserved g c =
-    let here = children_of c.requires.node c.node-node.ensures c.if-node-eq1.false c.child_nodes-children.ensures in
+    let here = children_of c.requires.node c.node-node.ensures.value c.if-node-eq1.false c.child_nodes-children.ensures in
     let k = asked here c.loop-i.i c.verdict_on-parent.result c.loop-i-test.true c.index-children-i.is
-    c.new-number.ensures c.node-whole.ensures c.info_under-info.ensures in
+    c.new-number.ensures c.node-whole.ensures.value c.info_under-info.ensures in
     let inv = c.loop-i.invariant in
     let e = rw inv.geometry at c.check.ensures in
     let h = rw (e.verdict, inv.children.wanted) at c.put_node.ensures in
@@ -57,5 +57,5 @@ loop-i-preserved g c =
 
 pub returns : goal.returns
 returns g c =
-    let here = children_of c.requires.node c.node-node.ensures c.if-node-eq1.false c.child_nodes-children.ensures in
+    let here = children_of c.requires.node c.node-node.ensures.value c.if-node-eq1.false c.child_nodes-children.ensures in
     record { children = search (rules, nodes_join); asked = omega arith; geometry = search rules }

@@ -43,7 +43,7 @@ returns-in_err-frontier-clause-progress g c pulled is =
     let at : IsFirstByte (is_byte line_feed) (drop searched bytes) (Some n) = rw (take_rest bytes searched) at c.in-Some.ensures in
     at_failure c.from_residual.result _ _ c.from_residual.ensures.1
     (fault-cut _ _ _ _ _ _ _ _ _ _ _ c.loop-at.invariant.answered n at _ (line_at bytes start searched order n)
-    (line_fits bytes start searched order n at c.requires.fits) _ (ap (λ p. p.bad) c.answer_line.ensures.progress) pulled is)
+    (line_fits bytes start searched order n at c.requires.fits) _ (ap (λ p. p.bad) c.run_line.ensures.progress) pulled is)
 
 pub loop-at-preserved : goal.loop-at-preserved
 loop-at-preserved g c =
@@ -59,13 +59,13 @@ loop-at-preserved g c =
       searched = below;
       count = c.in_ok-frontier.ensures.pushed.1 ∙ c.loop-at.invariant.count;
       capacity = c.in_ok-frontier.ensures.capacity ∙ c.loop-at.invariant.capacity;
-      few = rw c.answer_line.ensures.progress (omega (arith, c.loop-at.invariant.few, order));
+      few = rw c.run_line.ensures.progress (omega (arith, c.loop-at.invariant.few, order));
       answered = rw (none_begun bytes (searched + n + 1))
           (answered-more _ _ _ _ _ _ _ _ _ _ _ c.loop-at.invariant.answered n at _ (line_at bytes start searched order n)
           (line_fits bytes start searched order n at c.requires.fits) (drop (searched + n + 1) bytes) _ _ _
-          (behind_line bytes searched n) c.answer_line.ensures.progress c.in_ok-frontier.ensures.pushed.0 c.in_ok-frontier.ensures.worked);
+          (behind_line bytes searched n) c.run_line.ensures.progress c.in_ok-frontier.ensures.pushed.0 c.in_ok-frontier.ensures.worked);
       flushed = λ e.
-          let same = c.answer_line.ensures.untouched e in
+          let same = c.run_line.ensures.untouched e in
           ap g.K.Sink.waits same.1 ∙ c.loop-at.invariant.flushed same.0;
     }
 

@@ -53,6 +53,7 @@ invariant_of-result c =
       tree_is c ∙ pack_of-repacked fanout table c.requires.several sound.distinct
           ∙ ap (λ (t : Packed). pack_of fanout t.entries) (sym (tree_is c)),
       c.new-levels.ensures.sizes ∙ ap (λ n. level_sizes n fanout) (c.len.ensures.value ∙ sym long),
+      c.requires.most,
     )
 
 pub returns-clause-moved : goal.returns-clause-moved

@@ -1,0 +1,118 @@
+#!/usr/bin/env python3
+"""Writes each record of a CSV file again with the lines of a GeoJSON file that are nearest to its position.
+
+usage: examples/roads.py [--nearest K] [--columns X,Y] [--crs CRS] LINES POSITIONS
+
+docs/roads.md is its page. It needs the package rtfilter, numpy, pyproj and shapely.
+"""
+
+import argparse
+import csv
+import json
+import sys
+from collections.abc import Iterator
+from itertools import islice
+from typing import Any, NamedTuple
+
+import numpy
+from pyproj import Geod, Transformer
+from shapely.geometry import Point, shape
+from shapely.ops import nearest_points, transform
+
+from rtfilter import Circle, Rtfilter
+
+DEGREES = "EPSG:4326"
+AT_ONCE = 1000  # records
+COLUMNS = "rank", "line", "name", "longitude", "latitude", "metres"
+
+
+class Near(NamedTuple):
+    """A line near a position: the position's place, the line's rank, from 1, its feature's id and name, its nearest point in degrees,
+    and how far that is in metres."""
+
+    place: int
+    rank: int
+    line: Any
+    name: str
+    longitude: float
+    latitude: float
+    metres: float
+
+
+class Lines:
+    """The lines of a GeoJSON file in a plane, and a table of the boxes around them, in whole metres."""
+
+    def __init__(self, file: str, crs: str) -> None:
+        with open(file, encoding="utf-8") as text:
+            features = json.load(text)["features"]
+        self._plane = Transformer.from_crs(DEGREES, crs, always_xy=True)
+        self._earth = Geod(ellps="WGS84")
+        self._ids = [feature.get("id", place) for place, feature in enumerate(features)]
+        self._names = [(feature.get("properties") or {}).get("name") or "" for feature in features]
+        self._lines = [transform(self._plane.transform, shape(feature["geometry"])) for feature in features]
+        bounds = numpy.array([line.bounds for line in self._lines]).reshape(-1, 4)
+        self._boxes = Rtfilter.from_bounds(numpy.hstack([whole(numpy.floor(bounds[:, :2])), whole(numpy.ceil(bounds[:, 2:]))]))
+
+    def nearest_each(self, positions: list[tuple[float, float]], k: int) -> Iterator[Near]:
+        """For each position, in degrees, the k lines nearest to it in the plane, the nearest first."""
+        longitudes, latitudes = numpy.array(positions).T
+        xy = numpy.column_stack(self._plane.transform(longitudes, latitudes))
+        centres = whole(numpy.rint(xy))
+        points = [Point(it) for it in xy]
+        # None of the k nearest lines is farther than the farthest of any k lines. The lines of the k nearest boxes are good ones.
+        places, ids, _ = self._boxes.nearest_each(centres, k)
+        reach = numpy.zeros(len(points))
+        numpy.maximum.at(reach, places, self._distances(points, places, ids))
+        # (a metre more, since a centre lies beside its position)
+        places, ids = self._boxes.find_each(numpy.column_stack([centres, whole(numpy.ceil(reach)) + 1]), region=Circle)
+        order = numpy.lexsort([ids, self._distances(points, places, ids), places])
+        ranks = numpy.arange(len(order)) - numpy.searchsorted(places, places)
+        order, ranks = order[ranks < k], ranks[ranks < k] + 1
+        places, ids = places[order], ids[order]
+        feet = [nearest_points(self._lines[line], points[place])[0] for place, line in zip(places, ids)]
+        found = self._plane.transform([it.x for it in feet], [it.y for it in feet], direction="INVERSE")
+        metres = self._earth.inv(longitudes[places], latitudes[places], *found)[2]
+        for place, rank, line, *where in zip(places, ranks, ids, *found, metres):
+            yield Near(place, rank, self._ids[line], self._names[line], *where)
+
+    def _distances(self, points: list[Point], places: Any, ids: Any) -> Any:
+        return numpy.array([self._lines[line].distance(points[place]) for place, line in zip(places, ids)], "f8")
+
+
+def whole(numbers: Any) -> Any:
+    """Metres of the plane as integers. Raises ValueError where it has no such place."""
+    if not numpy.isfinite(numbers).all():
+        raise ValueError("a place that lies outside of the plane")
+    return numbers.astype("i8")
+
+
+def rows(records: Iterator[list[str]], columns: tuple[int, int], lines: Lines, k: int) -> Iterator[list[str]]:
+    """Each record, once for each of the lines nearest to its position."""
+    while batch := list(islice(records, AT_ONCE)):
+        positions = [(float(record[columns[0]]), float(record[columns[1]])) for record in batch]
+        for it in lines.nearest_each(positions, k):
+            where = f"{it.longitude:.7f}", f"{it.latitude:.7f}", f"{it.metres:.2f}"
+            yield [*batch[it.place], str(it.rank), str(it.line), it.name, *where]
+
+
+def main() -> None:
+    parser = argparse.ArgumentParser(description="Writes records again with the lines nearest to their positions.")
+    parser.add_argument("lines", metavar="LINES", help="a GeoJSON file of lines, in degrees")
+    parser.add_argument("positions", metavar="POSITIONS", help="a CSV file with a header")
+    parser.add_argument("--nearest", type=int, default=1, metavar="K", help="the number of lines for each position (1)")
+    parser.add_argument("--columns", default="longitude,latitude", metavar="X,Y", help="those of the degrees (longitude,latitude)")
+    parser.add_argument("--crs", default="EPSG:3857", help="the plane in which lines are nearest, in metres (EPSG:3857)")
+    args = parser.parse_args()
+    if args.nearest < 1:
+        parser.error("K is 1 or more")
+    with open(args.positions, encoding="utf-8", newline="") as file:
+        records = csv.reader(file)
+        header = next(records)
+        x, y = (header.index(it) for it in args.columns.split(","))
+        writer = csv.writer(sys.stdout, lineterminator="\n")
+        writer.writerow([*header, *(f"nearest_{it}" for it in COLUMNS)])
+        writer.writerows(rows(filter(None, records), (x, y), Lines(args.lines, args.crs), args.nearest))
+
+
+if __name__ == "__main__":
+    main()

@@ -1,0 +1,117 @@
+"""The command rtfilter-fence: positions on standard input, events on standard output."""
+
+import argparse
+import os
+import queue
+import signal
+import sys
+import threading
+from functools import partial
+
+from .. import __version__
+from .._console import say
+from .devices import Devices, Refused
+from .events import Fence
+from .log import Past, resume
+from .positions import FORM, LONGEST_LINE
+from .zones import NamedZones
+
+NAME = "rtfilter-fence"
+READ = 1 << 16  # bytes at once
+INPUT, OUTPUT = 0, 1
+
+
+def arguments() -> argparse.Namespace:
+    """The words of the command line."""
+    parser = argparse.ArgumentParser(
+        prog=NAME, description=f"Reads positions, lines {FORM}, and writes which devices enter and leave zones."
+    )
+    parser.add_argument("zones", metavar="ZONES", help="GeoJSON file of polygons, in degrees; SIGHUP loads it again")
+    parser.add_argument("--layer", default="layer", metavar="PROPERTY", help="property that has a zone's layer (default layer)")
+    parser.add_argument("--on", default="", metavar="LAYERS", help="layers of positions that name none, separated by ; (default all)")
+    parser.add_argument("--devices", type=int, default=1_000_000, metavar="N", help="devices that are known at a time (default 1000000)")
+    parser.add_argument("--resume", metavar="LOG", help="log of an earlier run, whose lines of the input are skipped")
+    parser.add_argument("--first-line", type=int, default=1, metavar="N", help="number of the first line of the input (default 1)")
+    parser.add_argument("--version", action="version", version=f"{NAME} {__version__}")
+    args = parser.parse_args()
+    if args.devices < 1 or args.first_line < 1:
+        parser.error("--devices and --first-line are 1 or more")
+    if args.first_line > 1 and args.resume is None:
+        parser.error("--first-line goes with --resume")
+    return args
+
+
+def main() -> int:
+    """Runs the command. Returns its exit status."""
+    for number in (signal.SIGTERM, signal.SIGINT):
+        if signal.getsignal(number) != signal.SIG_IGN:  # as an interrupt is in the background of a shell's script
+            signal.signal(number, lambda *_: os._exit(0))
+    args = arguments()
+    # (descriptors that were closed may be those of other files by now)
+    if None in (sys.stdin, sys.stdout):
+        say(NAME, "standard input or standard output is closed")
+        return 1
+    try:
+        run(args)
+    except (Refused, OSError, ValueError) as error:
+        say(NAME, str(error))
+        return 1
+    return 0
+
+
+def run(args: argparse.Namespace) -> None:
+    """Answers the input to its end. Raises OSError and ValueError."""
+    devices = Devices(args.devices)
+    load = partial(NamedZones, args.zones, args.layer, args.on)
+    requests: queue.SimpleQueue[None] = queue.SimpleQueue()  # whose `put` may stand in a signal's handler
+    signal.signal(signal.SIGHUP, lambda *_: requests.put(None))
+    past = Past() if args.resume is None else resumed(args.resume, devices)
+    if args.first_line > past.next_line:
+        raise ValueError(f"the input begins with line {args.first_line}, and the log goes on from line {past.next_line}")
+    fence = Fence(load(), devices, past)
+    devices.arrange(fence.zones.zones)
+    say(NAME, f"zones: {len(fence.zones.zones)}")
+
+    def keep_loaded() -> None:
+        while True:
+            requests.get()
+            while not requests.empty():  # one load serves all signals until now
+                requests.get()
+            try:
+                fence.zones = load()
+                say(NAME, f"zones: {len(fence.zones.zones)}")
+            except Exception as error:  # whatever it is: positions are answered by the zones of before
+                say(NAME, f"{error}; the zones are those of before")
+
+    threading.Thread(target=keep_loaded, daemon=True).start()
+    answer(fence, args.first_line)
+
+
+def resumed(file: str, devices: Devices) -> Past:
+    """What a log says, which is reported too."""
+    past = resume(file, devices)
+    if past.cut:
+        say(NAME, f"{file}: the last line was cut off, and is removed: {past.cut} bytes")
+    say(NAME, f"devices: {len(devices)}; lines that are no events: {past.strays}; goes on from line {past.next_line} of the input")
+    return past
+
+
+def answer(fence: Fence, number: int) -> None:
+    """Answers each read of the input before the next one. The first line has this number."""
+    part = b""
+    while piece := os.read(INPUT, READ):
+        *lines, part = (part + piece).split(b"\n")
+        # (of a line that is too long no more is kept than shows that)
+        part = part[: LONGEST_LINE + 1]
+        write(fence.events(number, lines))
+        number += len(lines)
+    lines = [part] if part else []
+    write(fence.events(number, lines))
+    fence.end(number + len(lines) - 1)
+
+
+def write(text: bytes) -> None:
+    """Writes all of a text. Raises OSError."""
+    unwritten = memoryview(text)
+    while unwritten:
+        unwritten = unwritten[os.write(OUTPUT, unwritten) :]

@@ -1,0 +1,266 @@
+"""Several tables queried as one: for more boxes than one table holds."""
+
+from collections.abc import Callable, Iterable
+from itertools import chain
+from operator import itemgetter
+from types import TracebackType
+from typing import TYPE_CHECKING, Any, NoReturn, Self
+
+from .client import Client
+from .errors import QueryError
+from .regions import All, Circle, Covers, Inside, Layers, Near, Order, Polygon, Region, Window
+from .table import Rtfilter
+
+if TYPE_CHECKING:
+    from numpy.typing import NDArray
+
+    from .arrays import Queries
+    from .merging import Piece, Rows
+
+Bounds = tuple[int, int, int, int]
+Pair = tuple[int, int]
+Member = tuple[Any, Bounds | None]  # a table or a client, with the bounds of its boxes if there are any
+ANYWHERE = (-(2**31), -(2**31), 2**31 - 1, 2**31 - 1)
+PART = 65_536  # queries that are merged at once: a signal is handled between two parts
+FEW = 1000  # queries for which threads take longer to start than the tables to answer
+
+
+class Tables:
+    """Several tables, queried as one. Answers are exact: those that one table of all boxes would give.
+
+    `members` are tables of this process, or clients of services. Ids have to be distinct over all members, which isn't checked.
+    A query goes to the tables whose bounds it overlaps; a client is always queried, since its service may load another table.
+    Any number of threads may query at the same time. Raises ValueError where there are no members, TypeError for other ones.
+    """
+
+    def __init__(self, members: Iterable[Rtfilter | Client]) -> None:
+        self._members = [*members]
+        if not self._members:
+            raise ValueError("no table is given")
+        for it in self._members:
+            if not isinstance(it, (Rtfilter, Client)):
+                raise TypeError(f"a member is an Rtfilter or a Client, and not {it!r:.200}")
+        self._bounded: list[Member] = [(it, it.bounds if isinstance(it, Rtfilter) else ANYWHERE) for it in self._members]
+
+    def __enter__(self) -> Self:
+        return self
+
+    def __exit__(self, kind: type[BaseException] | None, error: BaseException | None, trace: TracebackType | None) -> None:
+        self.close()
+
+    def __reduce__(self) -> str:
+        raise TypeError("tables can't be pickled: open them in each process, or fork")
+
+    def __len__(self) -> int:
+        """How many boxes there are in all tables."""
+        return sum(len(it) for it in self._members)
+
+    def __bool__(self) -> bool:
+        return True
+
+    @property
+    def bounds(self) -> Bounds | None:
+        """The least box around all boxes, as min_x, min_y, max_x, max_y; None where there are none. Raises TypeError where a
+        member is a client."""
+        found = [it.bounds for it in self._tables("bounds") if it.bounds is not None]
+        if not found:
+            return None
+        min_x, min_y, max_x, max_y = zip(*found)
+        return min(min_x), min(min_y), max(max_x), max(max_y)
+
+    def close(self) -> None:
+        """Closes every member."""
+        for it in self._members:
+            it.close()
+
+    def find(
+        self,
+        region: Region,
+        order: Order | None = None,
+        first: int | None = None,
+        *,
+        on: Layers | None = None,
+        scores: bool = False,
+    ) -> list[Any]:
+        """The ids of the boxes that a region accepts, in order, or with `scores` pairs (id, score)."""
+        members = self._overlapping(region)
+        if len(members) == 1:
+            found: list[Any] = members[0][0].find(region, order, first, on=on, scores=scores)
+            return found
+        if order is None and not isinstance(region, Circle):
+            ids = sorted(chain.from_iterable([it.find(region, None, first, on=on) for it, _ in members]))[:first]
+            return [(it, 0) for it in ids] if scores else ids
+        pairs = _ordered(members, region, order, first, lambda it: it.find(region, order, first, on=on, scores=True))
+        if scores:
+            return pairs
+        return [it for it, _ in pairs]
+
+    def nearest(self, k: int, x: int, y: int) -> list[Pair]:
+        """The k boxes nearest to a point: pairs of an id and the square of the distance."""
+        return _by_distance(self._overlapping(All()), x, y, k, lambda it: it.nearest(k, x, y))
+
+    def count(self, region: Region, *, on: Layers | None = None) -> int:
+        """How many boxes a region accepts."""
+        return sum([it.count(region, on=on) for it, _ in self._overlapping(region)])
+
+    def find_each(
+        self,
+        windows: Any = None,
+        *,
+        bounds: Any = None,
+        region: type = Window,
+        order: Order | None = None,
+        first: int | None = None,
+        on: Layers | None = None,
+    ) -> "tuple[NDArray[Any], NDArray[Any]]":
+        """The places of many windows and the ids of the boxes that each accepts, as `Rtfilter.find_each` gives them. Raises
+        TypeError where a member is a client."""
+        from . import arrays
+
+        places, ids, _ = self._found(arrays.queries_of(windows, bounds, region, order, first, on))
+        return places, ids
+
+    def nearest_each(self, points: Any, k: int) -> "tuple[NDArray[Any], NDArray[Any], NDArray[Any]]":
+        """The places of many points, the ids of the k boxes nearest to each and the squares of their distances, as
+        `Rtfilter.nearest_each` gives them. Raises TypeError where a member is a client."""
+        from . import arrays
+
+        places, ids, scores = self._found(arrays.Nearest(arrays.columns_of(points, "points", arrays.POINT), k))
+        assert scores is not None  # the nearest have scores
+        return places, ids, scores
+
+    def count_each(
+        self, windows: Any = None, *, bounds: Any = None, region: type = Window, on: Layers | None = None
+    ) -> "NDArray[Any]":
+        """How many boxes each of many windows accepts, as `Rtfilter.count_each` gives it. Raises TypeError where a member is a
+        client."""
+        import numpy
+
+        from . import arrays, merging
+
+        tables = self._tables("count_each")
+        queries = arrays.queries_of(windows, bounds, region, None, None, on)
+        counts = numpy.zeros(len(queries), "u8")
+        for begin in range(0, len(queries), PART):
+            some = queries.rows(slice(begin, begin + PART))
+            jobs = _jobs(tables, merging.first_rows(some, merging.bounds_of(tables)))
+            for (_, rows), found in zip(jobs, _run(lambda table, rows: table._counted(some.rows(rows)), jobs, begin)):
+                counts[begin + rows] += found
+        return counts
+
+    def levels(self) -> NoReturn:
+        """Raises TypeError: levels are those of one tree."""
+        raise TypeError("several tables have no levels in common: ask one of them")
+
+    def cost_of_find(self, *query: object, **options: object) -> NoReturn:
+        """Raises TypeError: a cost is that of one tree."""
+        raise TypeError("several tables have no cost in common: ask one of them")
+
+    cost_of_count = cost_of_find
+
+    def _overlapping(self, region: Region) -> list[Member]:
+        """The members that may have an answer, or one that refuses a region that is none."""
+        return [it for it in self._bounded if it[1] is not None and _may_answer(region, *it[1])] or self._bounded[:1]
+
+    def _tables(self, call: str) -> list[Rtfilter]:
+        tables = [it for it in self._members if isinstance(it, Rtfilter)]
+        if len(tables) < len(self._members):
+            raise TypeError(f"{call}: a client has single calls alone")
+        return tables
+
+    def _found(self, queries: "Queries") -> "Piece":
+        """The answers to many queries: their places, ids, and scores where they are ordered by them."""
+        import numpy
+
+        tables = self._tables("find_each and nearest_each")
+        pieces: list[Any] = []
+        for begin in range(0, max(len(queries), 1), PART):
+            places, ids, scores = _merged(tables, queries.rows(slice(begin, begin + PART)), begin)
+            pieces.append((places + begin, ids, scores))
+        places, ids = (numpy.concatenate([it[at] for it in pieces]) for at in (0, 1))
+        return places, ids, numpy.concatenate([it[2] for it in pieces]) if queries.is_scored else None
+
+
+def _ordered(
+    members: list[Member], region: Region, order: Order | None, first: int | None, find: Callable[[Any], Any]
+) -> list[Pair]:
+    """The first answers of members, by score and id."""
+    near = Near(region.x, region.y) if order is None and isinstance(region, Circle) else order
+    if isinstance(near, Near) and first is not None:
+        return _by_distance(members, near.x, near.y, first, find)
+    return sorted(chain.from_iterable([find(it) for it, _ in members]), key=itemgetter(1, 0))[:first]
+
+
+def _by_distance(members: list[Member], x: int, y: int, first: int, find: Callable[[Any], Any]) -> list[Pair]:
+    """The first answers by distance from a point. A table that is farther away than the last of them isn't queried."""
+    near = sorted(((_square(x, y, *bounds) if bounds else 0, at) for at, (_, bounds) in enumerate(members)))
+    pairs: list[Pair] = []
+    for distance, at in near:
+        if pairs and len(pairs) >= first and distance > pairs[-1][1]:
+            break
+        found = find(members[at][0])
+        pairs = sorted(chain(pairs, found), key=itemgetter(1, 0))[:first] if pairs else found
+    return pairs
+
+
+def _square(x: int, y: int, min_x: int, min_y: int, max_x: int, max_y: int) -> int:
+    """The square of the distance of a point from bounds."""
+    across, along = max(min_x - x, x - max_x, 0), max(min_y - y, y - max_y, 0)
+    return across * across + along * along
+
+
+def _may_answer(region: Region, min_x: int, min_y: int, max_x: int, max_y: int) -> bool:
+    """Whether a box within bounds may be an answer. Of what is no region the table says so."""
+    if isinstance(region, (Window, Inside)):
+        return region[0] <= max_x and region[1] >= min_x and region[2] <= max_y and region[3] >= min_y
+    if isinstance(region, Covers):
+        return region[0] >= min_x and region[1] <= max_x and region[2] >= min_y and region[3] <= max_y
+    if isinstance(region, Circle):
+        return _square(region.x, region.y, min_x, min_y, max_x, max_y) <= region.radius * region.radius
+    if isinstance(region, Polygon) and region.vertices:
+        xs, ys = zip(*region.vertices)
+        return bool(min(xs) <= max_x and max(xs) >= min_x and min(ys) <= max_y and max(ys) >= min_y)
+    return True
+
+
+def _merged(tables: list[Rtfilter], queries: "Queries", begin: int) -> "Piece":
+    """The answers to queries, of which the first has this place."""
+    from . import merging
+
+    def find(table: Rtfilter, rows: "Rows") -> "Piece":
+        places, ids, scores = table._found(queries.rows(rows), queries.is_scored)
+        return rows[places], ids, scores
+
+    bounds = merging.bounds_of(tables)
+    pieces = _run(find, _jobs(tables, merging.first_rows(queries, bounds)), begin)
+    if merging.is_in_two_goes(queries):
+        pieces += _run(find, _jobs(tables, merging.more_rows(queries, bounds, pieces)), begin)
+    return merging.merged(len(queries), pieces, queries.first)
+
+
+def _jobs(tables: list[Rtfilter], rows: "list[Rows]") -> "list[tuple[Rtfilter, Rows]]":
+    """The tables to query, each with its queries; the first one where there are none."""
+    return [it for it in zip(tables, rows) if len(it[1])] or [(tables[0], rows[0])]
+
+
+def _run(ask: "Callable[[Rtfilter, Rows], Any]", jobs: "list[tuple[Rtfilter, Rows]]", begin: int) -> list[Any]:
+    """What each table answers: in threads, if there are many queries. Raises the error of the first query that has one."""
+
+    def tried(job: "tuple[Rtfilter, Rows]") -> Any:
+        try:
+            return ask(*job)
+        except QueryError as error:
+            assert error.place is not None
+            return QueryError(error.query, begin + int(job[1][error.place]), error.code, error.text)
+
+    if len(jobs) == 1 or sum(len(rows) for _, rows in jobs) < FEW:
+        found = [*map(tried, jobs)]
+    else:
+        from concurrent.futures import ThreadPoolExecutor
+
+        with ThreadPoolExecutor(len(jobs)) as threads:
+            found = [*threads.map(tried, jobs)]
+    errors = [it for it in found if isinstance(it, QueryError)]
+    if errors:
+        raise min(errors, key=lambda it: it.place or 0)
+    return found

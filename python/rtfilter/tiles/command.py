@@ -1,0 +1,118 @@
+"""The command rtfilter-tiles: loads a table, listens, and loads it anew on SIGHUP."""
+
+import argparse
+import asyncio
+import hashlib
+import logging
+import logging.handlers
+import signal
+from pathlib import Path
+
+from aiohttp import web
+
+from .. import __version__
+from .._console import say
+from .boxes import Boxes, Files
+from .server import Served, Server
+from .views import Views
+
+NAME = "rtfilter-tiles"
+ACCESSES = logging.getLogger("rtfilter.tiles")
+COMMON_LOG_FORMAT = '%a - - %t "%r" %s %b'
+INTERRUPTED = 130  # the status, as shells have it
+SHUTDOWN = 10.0  # seconds for requests that are under way at the end
+
+
+def arguments() -> argparse.Namespace:
+    """The words of the command line."""
+    parser = argparse.ArgumentParser(prog=NAME, description="Serves a map of a table of boxes, as a page and as vector tiles.")
+    parser.add_argument("table", metavar="TABLE", help="CSV file of boxes, in centimetres of Web Mercator; SIGHUP loads it again")
+    parser.add_argument("--header", action="store_true", help="skip the table's first record")
+    parser.add_argument("--names", metavar="FILE", help="CSV file of ids and names of boxes")
+    parser.add_argument("--layers", metavar="FILE", help="CSV file of layers, 0 to 63, and their names (default layer 3 and so on)")
+    parser.add_argument("--listen", default="127.0.0.1", metavar="ADDRESS", help="address to listen on (default 127.0.0.1)")
+    parser.add_argument("--port", type=int, default=8080, help="port to listen on, 0 for any free one (default 8080)")
+    parser.add_argument("--reuse-port", action="store_true", help="let several processes listen on the port")
+    parser.add_argument("--host", action="append", default=[], metavar="NAME", help="another name of this server; may be repeated")
+    parser.add_argument("--url", metavar="URL", help="the server's address behind a proxy, with a slash at its end (default http and the Host)")
+    parser.add_argument("--origin", action="append", default=[], help="origin whose pages may read replies, * for any; may be repeated")
+    parser.add_argument("--max-age", type=int, default=60, metavar="SECONDS", help="that a client may keep a tile (default 60)")
+    parser.add_argument("--log", metavar="FILE", help="file for a line of each request, - for standard error")
+    parser.add_argument("--version", action="version", version=f"{NAME} {__version__}")
+    args = parser.parse_args()
+    if args.max_age < 0:
+        parser.error("an age is 0 or more")
+    return args
+
+
+def main() -> int:
+    """Runs the command. Returns its exit status."""
+    args = arguments()
+    try:
+        log_accesses(args.log)
+        asyncio.run(serve(args))
+    except (OSError, OverflowError, ValueError, MemoryError) as error:
+        say(NAME, str(error))
+        return 1
+    except KeyboardInterrupt:  # during the first load
+        return INTERRUPTED
+    return 0
+
+
+async def serve(args: argparse.Namespace) -> None:
+    """Loads the table and answers until SIGTERM or SIGINT. Raises why it can't."""
+    end, again, loop = asyncio.Event(), asyncio.Event(), asyncio.get_running_loop()
+    loop.add_signal_handler(signal.SIGHUP, again.set)
+    hosts: set[str] = set()
+    server = Server(loaded(args), hosts, {*args.origin}, args.url, args.max_age)
+    for number in (signal.SIGTERM, signal.SIGINT):
+        loop.add_signal_handler(number, end.set)
+    runner = web.AppRunner(server.app(), access_log=ACCESSES if args.log else None, access_log_format=COMMON_LOG_FORMAT)
+    await runner.setup()
+    server.connections = lambda: len(runner.server.connections) if runner.server else 0
+    try:
+        await web.TCPSite(runner, args.listen, args.port, reuse_port=args.reuse_port or None, shutdown_timeout=SHUTDOWN).start()
+        port = runner.addresses[0][1]
+        # A name may come without the port, as it does for port 80 and behind a proxy.
+        for name in (*args.host, "localhost", "127.0.0.1", args.listen):
+            hosts |= {name.lower(), f"{name}:{port}".lower()}
+        loading = asyncio.create_task(keep_loaded(args, server, again))
+        print(f"http://{args.listen}:{port}/", flush=True)
+        await end.wait()
+        loading.cancel()
+    finally:
+        await runner.cleanup()
+
+
+def loaded(args: argparse.Namespace, generation: int = 1) -> Served:
+    """What the files hold, and a tag of all that replies are made of: these files and the server's own."""
+    made_of = hashlib.blake2b(f"{args.header} {args.url}".encode(), digest_size=8)
+    for name in (args.table, args.names, args.layers, *sorted(Path(__file__).parent.glob("*.*"))):
+        if name is not None:
+            with open(name, "rb") as file:
+                made_of.update(hashlib.file_digest(file, "blake2b").digest())
+    return Served(Views(Boxes(Files(args.table, args.header, args.names, args.layers))), made_of.hexdigest(), generation)
+
+
+async def keep_loaded(args: argparse.Namespace, server: Server, again: asyncio.Event) -> None:
+    """Loads the files beside those that are served, once for all signals that came meanwhile. What can't be loaded changes
+    nothing."""
+    while await again.wait():
+        again.clear()
+        try:
+            server.put(await asyncio.to_thread(loaded, args, server.served.generation + 1))
+            say(NAME, f"the table is exchanged: {len(server.served.views)} boxes")
+        except Exception as error:  # whatever it is: requests are answered from the table that is there
+            server.loads_failed += 1
+            say(NAME, f"{error}; the table is the one of before")
+
+
+def log_accesses(name: str | None) -> None:
+    """Logs accesses to a file, which is opened anew where another one stands in its place."""
+    if name is not None:
+        handler: logging.Handler = logging.StreamHandler()
+        if name != "-":
+            handler = logging.handlers.WatchedFileHandler(name, encoding="utf-8")
+        ACCESSES.addHandler(handler)
+        ACCESSES.setLevel(logging.INFO)
+    ACCESSES.propagate = False

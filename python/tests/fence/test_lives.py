@@ -1,0 +1,186 @@
+"""What a fence does while it runs: zones are exchanged, signals end it, readers leave or are slow."""
+
+import errno
+import os
+import random
+import signal
+import subprocess
+import threading
+import time
+from collections.abc import Callable, Iterator
+from contextlib import ExitStack
+from pathlib import Path
+from typing import Any
+
+import pytest
+from fences import COMMAND, Running, brief, feature, square, write_zones
+from support import LONGEST, environment
+
+PARK, LAKE = feature("park", square(0, 0, 10)), feature("lake", square(20, 0, 10))
+WIDER = feature("park", square(0, 0, 15), name="Park", layer="green")
+LATE = "older than the last position of its device"
+KEPT = "; the zones are those of before"
+ENDS = [it for it in (signal.SIGTERM, signal.SIGINT) if signal.getsignal(it) != signal.SIG_IGN]
+Start = Callable[..., Running]
+
+
+@pytest.fixture
+def zones(tmp_path: Path) -> Path:
+    file = tmp_path / "zones.geojson"
+    write_zones(file, [PARK, LAKE])
+    return file
+
+
+@pytest.fixture
+def start(zones: Path) -> Iterator[Start]:
+    """Starts a fence."""
+    with ExitStack() as stack:
+        yield lambda *options: stack.enter_context(Running(zones, *options)).started()
+
+
+def exchange(fence: Running, zones: Path, *features: dict[str, Any]) -> None:
+    write_zones(zones, features)
+    fence.process.send_signal(signal.SIGHUP)
+    assert fence.errors.next() == f"rtfilter-fence: zones: {len(features)}"
+
+
+def test_zones_that_change(start: Start, zones: Path) -> None:
+    """A zone of the same id is the same zone; one that is there no more is left with the next position."""
+    fence = start()
+    fence.send("a,12,1,1", "b,25,1,1", "c,1,1,1")
+    assert brief(fence.events.some(2)) == [("b", "enter", "lake"), ("c", "enter", "park")]
+    exchange(fence, zones, WIDER)
+    fence.send("a,12,1,2", "b,25,1,2", "c,1,1,2", "c,1,1,1")
+    assert brief(fence.events.some(3)) == [("a", "enter", "park"), ("b", "leave", "lake"), ("c", "refused", LATE)]
+    assert fence.ended() == (0, [])  # and nothing was loaded once more
+
+
+def test_zones_that_are_not_taken(start: Start, zones: Path) -> None:
+    """Those of before stay, and a later exchange is made."""
+    fence = start()
+    for text, why in (
+        ('{"features": [{"geometry": null}]}', f"rtfilter-fence: {zones}: polygons[0]: dict is no Polygon and no MultiPolygon{KEPT}"),
+        (None, f"rtfilter-fence: [Errno 2] No such file or directory: '{zones}'{KEPT}"),
+        ("[", f"rtfilter-fence: {zones}: no JSON: Expecting value: line 1 column 2 (char 1){KEPT}"),
+    ):
+        zones.unlink(missing_ok=True)
+        if text is not None:
+            zones.write_text(text)
+        fence.process.send_signal(signal.SIGHUP)
+        assert fence.errors.next() == why
+    fence.send("a,1,1,1")
+    assert brief(fence.events.some(1)) == [("a", "enter", "park")]
+    exchange(fence, zones, LAKE)
+    fence.send("a,1,1,1")
+    assert brief(fence.events.some(1)) == [("a", "leave", "park")]
+
+
+def test_many_exchanges_while_positions_come(start: Start, zones: Path) -> None:
+    """Each position is answered by the zones of before or of after: no event comes twice, and none is lost."""
+    fence, stop = start(), threading.Event()
+    seen: list[tuple[int, str, bool]] = []
+
+    def ask() -> None:
+        chance, inside = random.Random(8), False
+        for moment in range(1, 1_000_000):
+            x = chance.choice([1, 12, 50])
+            fence.send(f"a,{x},1,{moment}", "marker")  # which is refused: all events up to there are written
+            while (event := fence.events.some(1)[0])["event"] != "refused":
+                seen.append((x, event["event"], inside))
+                inside = event["event"] == "enter"
+            if stop.is_set():
+                return
+
+    asker = threading.Thread(target=ask)
+    asker.start()
+    try:
+        for number in range(20):
+            exchange(fence, zones, WIDER if number % 2 else PARK)
+    finally:
+        stop.set()
+        asker.join(LONGEST)
+    assert len(seen) > 20
+    for x, event, was_inside in seen:
+        assert (event == "enter") != was_inside
+        assert event == "leave" if x == 50 else x == 12 or event == "enter"
+
+
+def test_a_load_that_does_not_end(start: Start, zones: Path) -> None:
+    """Positions are answered meanwhile, there is no second load beside it, and a signal ends the fence."""
+    fence = start()
+    pipe = zones.with_suffix(".pipe")
+    os.mkfifo(pipe)
+    pipe.replace(zones)
+    for number in range(3):
+        fence.process.send_signal(signal.SIGHUP)
+        fence.send(f"{number},1,1,1")
+        assert brief(fence.events.some(1)) == [(str(number), "enter", "park")]
+    assert len(os.listdir(f"/proc/{fence.process.pid}/task")) == 2
+    fence.process.send_signal(signal.SIGTERM)
+    assert fence.ended() == (0, [])
+
+
+def test_a_storm_of_signals(start: Start, zones: Path) -> None:
+    """The last of them is followed by a load."""
+    fence = start()
+    for _ in range(2000):
+        fence.process.send_signal(signal.SIGHUP)
+    write_zones(zones, [LAKE])
+    fence.process.send_signal(signal.SIGHUP)
+    while fence.errors.next() != "rtfilter-fence: zones: 1":
+        pass
+    fence.send("a,25,1,1", "a,1,1,2")
+    assert brief(fence.events.some(2)) == [("a", "enter", "lake"), ("a", "leave", "lake")]
+    fence.process.send_signal(signal.SIGTERM)
+    assert fence.ended()[0] == 0
+
+
+@pytest.mark.parametrize("number", ENDS)
+def test_an_end_during_the_first_load(number: int, zones: Path) -> None:
+    """Whatever the load waits for: here for somebody who writes more of the file."""
+    zones.unlink()
+    os.mkfifo(zones)
+    with Running(zones) as fence:
+        writing = opened_for_writing(zones)
+        fence.process.send_signal(number)
+        assert fence.ended() == (0, [])
+        os.close(writing)
+
+
+def opened_for_writing(pipe: Path) -> int:
+    """The end of a named pipe, once another process reads from it."""
+    until = time.monotonic() + LONGEST
+    while True:
+        try:
+            return os.open(pipe, os.O_WRONLY | os.O_NONBLOCK)
+        except OSError as error:
+            if error.errno != errno.ENXIO or time.monotonic() > until:
+                raise
+            time.sleep(0.01)
+
+
+@pytest.mark.parametrize("number", ENDS)
+def test_an_end_while_nobody_reads_events(number: int, start: Start) -> None:
+    fence = start()
+    os.set_blocking(fence.input.fileno(), False)
+    lines = b"x\n" * 1000
+    while fence.input.write(lines) == len(lines):  # until no pipe takes any more
+        pass
+    fence.process.send_signal(number)
+    assert fence.process.wait(LONGEST) == 0
+
+
+def test_a_reader_that_leaves(start: Start) -> None:
+    fence = start()
+    assert fence.process.stdout is not None
+    fence.process.stdout.close()
+    fence.send("a,1,1,1")
+    assert fence.ended() == (1, ["rtfilter-fence: [Errno 32] Broken pipe"])
+    fence.process.stdout = open(os.devnull, "rb")
+
+
+@pytest.mark.parametrize("closed", ["<&-", ">&-"])
+def test_a_closed_stream(closed: str, zones: Path) -> None:
+    words = ["sh", "-c", f'exec "$@" {closed}', "sh", *COMMAND, str(zones)]
+    done = subprocess.run(words, stderr=subprocess.PIPE, timeout=LONGEST, env=environment())
+    assert (done.returncode, done.stderr) == (1, b"rtfilter-fence: standard input or standard output is closed\n")

@@ -1,0 +1,184 @@
+"""Several tables answer as one table of all boxes does."""
+
+import pickle
+import random
+from collections.abc import Callable, Iterator
+from pathlib import Path
+from typing import Any
+
+import numpy
+import pytest
+from conftest import Serve
+
+from rtfilter import All, Circle, Client, Covers, Inside, Near, Polygon, QueryError, Rtfilter, Smallest, Tables, Window, tables
+
+SEEDS = 40
+QUERIES = 120
+FAR = 2**31 - 1
+Row = tuple[int, ...]
+
+
+def rows_of(chance: random.Random, span: int) -> list[Row]:
+    """Boxes of which many lie at the same distance and have the same area, with distinct ids and layers."""
+    rows: list[Row] = []
+    for at in chance.sample(range(-500, 500), chance.randint(0, 80)):
+        x, y = chance.randint(-span, span), chance.randint(-span, span)
+        rows.append((at, x, x + chance.randint(0, 6), y, y + chance.randint(0, 6), chance.choice([0, 0, 1, 63])))
+    edges: list[Row] = [(1000, -FAR - 1, -FAR - 1, -FAR - 1, -FAR - 1, 0), (1001, FAR, FAR, FAR, FAR, 1), (1002, -FAR - 1, FAR, -FAR - 1, FAR, 2)]
+    return rows + chance.sample(edges, chance.choice([0, 0, 1, 3]))
+
+
+def cut(chance: random.Random, rows: list[Row]) -> list[list[Row]]:
+    """Rows in one to five parts: by place, or by chance. Some parts may be empty."""
+    count = chance.randint(1, 5)
+    parts: list[list[Row]] = [[] for _ in range(count)]
+    for row in rows:
+        parts[(row[1] // 8) % count if chance.random() < 0.7 else chance.randrange(count)].append(row)
+    return parts
+
+
+def number(chance: random.Random) -> int:
+    return chance.choice([chance.randint(-25, 25)] * 20 + [FAR, -FAR - 1])
+
+
+def region_of(chance: random.Random) -> Any:
+    kind = chance.choice([All, Window, Window, Inside, Covers, Circle, Circle, Polygon])
+    if kind is All:
+        return All()
+    if kind is Circle:
+        return Circle(number(chance), number(chance), chance.choice([0, 3, 9, 40, 2**32 - 1]))
+    if kind is Polygon:
+        x, y, a, b = number(chance) // 2, number(chance) // 2, chance.randint(1, 30), chance.randint(1, 30)
+        return Polygon([(x, y), (x + a, y), (x, y + b)])
+    across, along = sorted([number(chance), number(chance)]), sorted([number(chance), number(chance)])
+    return kind(*across, *along)
+
+
+def options_of(chance: random.Random) -> dict[str, Any]:
+    order = chance.choice([None, None, Near(number(chance), number(chance)), Smallest()])
+    first = chance.choice([None, 0, 1, 2, 5, 1000, 2**64 - 1])
+    return {"order": order, "first": first, "on": chance.choice([None, None, 0, [1, 63]])}
+
+
+@pytest.fixture(params=[(10**6, 65_536), (0, 50)], ids=["in a loop", "in threads, by parts"])
+def ways(request: Any, monkeypatch: pytest.MonkeyPatch) -> None:
+    """Both ways of many queries: without threads, and with them for any number of queries, in small parts."""
+    monkeypatch.setattr(tables, "FEW", request.param[0])
+    monkeypatch.setattr(tables, "PART", request.param[1])
+
+
+@pytest.mark.parametrize("seed", range(SEEDS))
+def test_single_calls(seed: int) -> None:
+    chance = random.Random(seed)
+    rows = rows_of(chance, chance.choice([5, 20]))
+    with Rtfilter(rows) as one, Tables(map(Rtfilter, cut(chance, rows))) as many:
+        assert len(many) == len(one) and many.bounds == one.bounds
+        for _ in range(QUERIES):
+            region, options = region_of(chance), options_of(chance)
+            assert many.find(region, **options) == one.find(region, **options), (region, options)
+            assert many.find(region, **options, scores=True) == one.find(region, **options, scores=True), (region, options)
+            assert many.count(region, on=options["on"]) == one.count(region, on=options["on"])
+            k, x, y = chance.choice([0, 1, 3, 30, 2**64 - 1]), number(chance), number(chance)
+            assert many.nearest(k, x, y) == one.nearest(k, x, y)
+
+
+@pytest.mark.usefixtures("ways")
+@pytest.mark.parametrize("seed", range(SEEDS // 2))
+def test_many_queries(seed: int) -> None:
+    chance = random.Random(seed)
+    rows = rows_of(chance, chance.choice([5, 20]))
+    with Rtfilter(rows) as one, Tables(map(Rtfilter, cut(chance, rows))) as many:
+        for kind in (Window, Inside, Covers, Circle):
+            some = [[*it] for it in (region_of(chance) for _ in range(6 * QUERIES)) if type(it) is kind]
+            options = options_of(chance)
+            same(many.find_each(some, region=kind, **options), one.find_each(some, region=kind, **options))
+            same([many.count_each(some, region=kind, on=options["on"])], [one.count_each(some, region=kind, on=options["on"])])
+        points = [(number(chance), number(chance)) for _ in range(QUERIES)]
+        for k in (0, 1, 3, 2**64 - 1):
+            same(many.nearest_each(points, k), one.nearest_each(points, k))
+        bounds = numpy.array([(x, y, x + 4, y + 4) for x, y in points if max(x, y) < FAR])
+        same(many.find_each(bounds=bounds), one.find_each(bounds=bounds))
+
+
+def same(some: Any, others: Any) -> None:
+    for one, other in zip(some, others, strict=True):
+        assert one.tolist() == other.tolist() and one.dtype == other.dtype
+
+
+def test_ties_whose_floats_differ() -> None:
+    chance = random.Random(9)
+    found = 0
+    while found < 20:
+        x, y = chance.randint(2**30, FAR), chance.randint(2**30, FAR)
+        if float(x) ** 2 + float(y) ** 2 > float(x * x + y * y):
+            found += 1
+            with Tables([Rtfilter([(2, x, x, y, y)]), Rtfilter([(1, y, y, x, x)])]) as many:
+                assert many.nearest(1, 0, 0) == [(1, x * x + y * y)] and many.nearest_each([(0, 0)], 1)[1].tolist() == [1]
+                assert many.find_each([(0, 0, 2**32 - 1)], region=Circle, first=1)[1].tolist() == [1]
+
+
+@pytest.fixture
+def three() -> Iterator[Tables]:
+    with Tables([Rtfilter([(at, at * 10, at * 10 + 5, 0, 5)]) for at in range(3)]) as found:
+        yield found
+
+
+def raised(call: Callable[[], object]) -> list[object]:
+    with pytest.raises((QueryError, TypeError, ValueError, OverflowError)) as error:
+        call()
+    return [error.type, *error.value.args]
+
+
+@pytest.mark.usefixtures("ways")
+def test_invalid_queries_are_those_of_one_table(three: Tables) -> None:
+    one = Rtfilter([(at, at * 10, at * 10 + 5, 0, 5) for at in range(3)])
+    for region in (Window(5, 1, 0, 1), Window(900, 1, 0, 1), Circle(999, 0, -1), Inside(0, 2**31, 0, 1), Polygon([(0, 0)]), 7, Near(0, 0)):
+        for first in (None, 3):
+            assert raised(lambda: three.find(region, None, first)) == raised(lambda: one.find(region, None, first))  # type: ignore
+        assert raised(lambda: three.count(region)) == raised(lambda: one.count(region))  # type: ignore[arg-type]
+    for options in ({"first": -1}, {"first": 1.5}, {"on": 64}, {"on": []}, {"order": 5}, {"order": Near(2**31, 0)}):
+        assert raised(lambda: three.find(All(), **options)) == raised(lambda: one.find(All(), **options))  # type: ignore[arg-type]
+    good, turned, beyond = (0, 20, 0, 9), (50, 40, 0, 9), (0, 2**40, 0, 9)
+    turned_in_second = (12, 11, 0, 9)
+    faulty = [[good] * 70 + [turned] + [good, beyond], [good, beyond, turned], [turned] * 9, [good] * 8 + [(10**30, 10**31, 0, 9)]]
+    for rows in (*faulty, [good, turned_in_second, good, turned], [turned, good, turned_in_second]):
+        assert raised(lambda: three.find_each(rows)) == raised(lambda: one.find_each(rows))
+        assert raised(lambda: three.count_each(rows)) == raised(lambda: one.count_each(rows))
+    assert raised(lambda: three.nearest_each([(0, 0), (2**31, 0)], 2)) == raised(lambda: one.nearest_each([(0, 0), (2**31, 0)], 2))
+    assert raised(lambda: three.find_each([(0, 0.5, 0, 9)])) == raised(lambda: one.find_each([(0, 0.5, 0, 9)]))
+    assert [it.tolist() for it in three.find_each([])] == [[], []] and three.count_each([]).tolist() == []
+
+
+def test_what_several_tables_have_not(three: Tables) -> None:
+    for call in (three.levels, lambda: three.cost_of_find(All()), lambda: three.cost_of_count(All()), lambda: pickle.dumps(three)):
+        with pytest.raises(TypeError):
+            call()
+    for members, error in (([], ValueError), ([1], TypeError), ([Rtfilter([]), "boxes.csv"], TypeError)):
+        with pytest.raises(error):
+            Tables(members)  # type: ignore[arg-type]
+    assert Tables([Rtfilter([])]).bounds is None and Tables([Rtfilter([]), Rtfilter([])]).nearest(3, 0, 0) == []
+    three.close()
+    with pytest.raises(ValueError):
+        three.find(All())
+
+
+def test_tables_of_services(serve: Serve, tmp_path: Path) -> None:
+    chance = random.Random(1)
+    rows = rows_of(chance, 20) + [(at, at % 9, at % 9, at % 7, at % 7, 0) for at in range(2000, 2100)]
+    files = [tmp_path / name for name in ("a.csv", "b.csv")]
+    for file, some in zip(files, (rows[0::3], rows[1::3])):
+        file.write_text("".join(",".join(map(str, it)) + "\n" for it in some))
+    clients = [Client(serve(it), timeout=20) for it in files]
+    with Rtfilter(rows) as one, Tables([*clients, Rtfilter(rows[2::3])]) as many:
+        assert len(many) == len(one)
+        for _ in range(3 * QUERIES):
+            region, options = region_of(chance), options_of(chance)
+            assert many.find(region, **options, scores=True) == one.find(region, **options, scores=True), (region, options)
+            assert many.count(region, on=options["on"]) == one.count(region, on=options["on"])
+            assert many.nearest(3, 1, 2) == one.nearest(3, 1, 2)
+        with pytest.raises(TypeError, match="client"):
+            many.find_each([(0, 1, 0, 1)])
+        with pytest.raises(TypeError, match="client"):
+            many.count_each([(0, 1, 0, 1)])
+        with pytest.raises(TypeError, match="client"):
+            many.bounds

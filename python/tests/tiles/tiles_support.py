@@ -1,0 +1,146 @@
+"""What the tests of the map share: the program, a map, a server, and what a process has cost."""
+
+import json
+import os
+import shutil
+import signal
+import socket
+import subprocess
+import sys
+import tempfile
+import unittest
+from collections.abc import Iterable
+from http.client import HTTPConnection, HTTPResponse
+from pathlib import Path
+from typing import Any
+
+from support import LONGEST, PROGRAM, environment
+
+PATIENCE = 60  # seconds that a start, an end or an exchange may take on a busy machine
+BOXES = 30_000
+COMMAND = [sys.executable, "-B", "-m", "rtfilter.tiles"]
+HOSTILE_NAME = '<img src=x onerror="throw 1"><script>throw 2</script>'
+HOSTILE_LAYER = "<b>buildings</b>"
+
+def make_map(folder: Path, boxes: int, seed: int = 1) -> None:
+    words = [sys.executable, "-B", "-m", "rtfilter.tiles.make_map", folder, "--boxes", boxes, "--seed", seed]
+    subprocess.run([*map(str, words)], check=True, timeout=LONGEST, env=environment())
+
+
+def told(table: Path, lines: Iterable[str]) -> list[list[str]]:
+    """What the program writes for each line, the last line of each reply included, where each line has a reply."""
+    queries = "".join(line + "\n" for line in lines)
+    done = subprocess.run([PROGRAM, table], input=queries, capture_output=True, text=True, timeout=LONGEST)
+    replies: list[list[str]] = [[]]
+    for line in done.stdout.splitlines():
+        replies[-1].append(line)
+        if line.startswith(("ok ", "error ")):
+            replies.append([])
+    return replies[:-1]
+
+
+def number_told(table: Path, line: str) -> int:
+    """The number in the last line of the reply to a line."""
+    return int(told(table, [line])[0][-1].split()[2])
+
+
+def ids_told(table: Path, line: str) -> list[int]:
+    return [int(answer.split()[0]) for answer in told(table, [line])[0][:-1]]
+
+
+class Server:
+    """A server of a table, as a process."""
+
+    def __init__(self, table: Path, *options: str) -> None:
+        words = [*COMMAND, "--port", "0", *options, table]
+        pipe = subprocess.PIPE
+        self.process = subprocess.Popen([*map(str, words)], stdout=pipe, stderr=pipe, text=True, env=environment())
+        assert self.process.stdout is not None
+        self.address = self.process.stdout.readline().strip()
+        if not self.address:
+            raise RuntimeError(self.end()[1])
+        self.port = int(self.address.rstrip("/").rpartition(":")[2])
+
+    def connected(self) -> HTTPConnection:
+        return HTTPConnection("127.0.0.1", self.port, timeout=LONGEST)
+
+    def get(self, target: str) -> tuple[HTTPResponse, bytes]:
+        """The reply to one request, and its body."""
+        connection = self.connected()
+        try:
+            connection.request("GET", target)
+            reply = connection.getresponse()
+            return reply, reply.read()
+        finally:
+            connection.close()
+
+    def reply_to(self, request: bytes) -> tuple[HTTPResponse, bytes]:
+        """The reply to these bytes, and its body."""
+        with socket.create_connection(("127.0.0.1", self.port), LONGEST) as connection:
+            connection.sendall(request)
+            reply = HTTPResponse(connection)
+            reply.begin()
+            return reply, reply.read()
+
+    def seconds(self) -> float:
+        """Processor time so far."""
+        return seconds_of(self.process.pid)
+
+    def end(self, number: int = signal.SIGTERM) -> tuple[int, str]:
+        """Its exit status and what it has written on standard error."""
+        self.process.send_signal(number)
+        return self.ended()
+
+    def ended(self) -> tuple[int, str]:
+        _, errors = self.process.communicate(timeout=PATIENCE)
+        return self.process.returncode, errors
+
+    def __enter__(self) -> "Server":
+        return self
+
+    def __exit__(self, *_: Any) -> None:
+        if self.process.returncode is None:
+            self.end()
+
+
+def seconds_of(process: int) -> float:
+    # Behind the name, which is in brackets and may hold anything: from the third field of proc(5)'s stat on.
+    fields = Path(f"/proc/{process}/stat").read_text().rpartition(")")[2].split()
+    return (int(fields[11]) + int(fields[12])) / os.sysconf("SC_CLK_TCK")
+
+
+def wants(tool: str) -> None:
+    if shutil.which(tool) is None:
+        raise unittest.SkipTest(f"{tool}: not installed")
+
+
+def hostile_map(folder: Path) -> list[str]:
+    """A map whose first town, and whose last layer, have names that look like markup; the options that name them."""
+    make_map(folder, BOXES)
+    for name, line in ("names.csv", 1), ("layers.csv", 6):
+        lines = (folder / name).read_text().splitlines()
+        number = lines[line - 1].partition(",")[0]
+        text = (HOSTILE_NAME if line == 1 else HOSTILE_LAYER).replace('"', '""')
+        lines[line - 1] = f'{number},"{text}"'
+        (folder / name).write_text("\n".join(lines) + "\n")
+    return ["--names", str(folder / "names.csv"), "--layers", str(folder / "layers.csv")]
+
+
+class Mapped(unittest.TestCase):
+    """A map and its server."""
+
+    table: Path
+    server: Server
+
+    @classmethod
+    def setUpClass(cls) -> None:
+        folder = Path(cls.enterClassContext(tempfile.TemporaryDirectory()))
+        options = hostile_map(folder)
+        cls.table = folder / "boxes.csv"
+        cls.server = cls.enterClassContext(Server(cls.table, *options))
+
+    def json(self, target: str) -> dict[str, Any]:
+        reply, body = self.server.get(target)
+        self.assertEqual((reply.status, reply.headers["Content-Type"]), (200, "application/json"), body)
+        found: dict[str, Any] = json.loads(body)
+        return found
