@@ -6,6 +6,7 @@ import queue
 import signal
 import sys
 import threading
+from collections.abc import Callable
 from functools import partial
 
 from .. import __version__
@@ -43,28 +44,46 @@ def arguments() -> argparse.Namespace:
 
 def main() -> int:
     """Runs the command. Returns its exit status."""
-    for number in (signal.SIGTERM, signal.SIGINT):
-        if signal.getsignal(number) != signal.SIG_IGN:  # as an interrupt is in the background of a shell's script
-            signal.signal(number, lambda *_: os._exit(0))
+    requests: queue.SimpleQueue[None] = queue.SimpleQueue()
+    on_signals({signal.SIGTERM: lambda: os._exit(0), signal.SIGINT: lambda: os._exit(0), signal.SIGHUP: lambda: requests.put(None)})
     args = arguments()
     # (descriptors that were closed may be those of other files by now)
     if None in (sys.stdin, sys.stdout):
         say(NAME, "standard input or standard output is closed")
         return 1
     try:
-        run(args)
+        run(args, requests)
     except (Refused, OSError, ValueError) as error:
         say(NAME, str(error))
         return 1
     return 0
 
 
-def run(args: argparse.Namespace) -> None:
-    """Answers the input to its end. Raises OSError and ValueError."""
+def on_signals(actions: dict[int, Callable[[], None]]) -> None:
+    """Runs a signal's action in a thread as soon as the signal arrives.
+
+    A Python handler would run in the main thread, which reads the input. If the signal arrives just before that read begins, the
+    handler waits until there is input. The file descriptor of `set_wakeup_fd` is written at once.
+    """
+    arrived, wakeup = os.pipe()
+    os.set_blocking(wakeup, False)
+    signal.set_wakeup_fd(wakeup, warn_on_full_buffer=False)
+    for number in actions:
+        if number == signal.SIGHUP or signal.getsignal(number) != signal.SIG_IGN:  # (a shell's background jobs ignore SIGINT)
+            signal.signal(number, lambda *_: None)
+
+    def run_actions() -> None:
+        while True:
+            for number in os.read(arrived, 64):
+                actions[number]()
+
+    threading.Thread(target=run_actions, daemon=True).start()
+
+
+def run(args: argparse.Namespace, requests: queue.SimpleQueue[None]) -> None:
+    """Answers the input to its end, and loads the zones again at each request. Raises OSError and ValueError."""
     devices = Devices(args.devices)
     load = partial(NamedZones, args.zones, args.layer, args.on)
-    requests: queue.SimpleQueue[None] = queue.SimpleQueue()  # whose `put` may stand in a signal's handler
-    signal.signal(signal.SIGHUP, lambda *_: requests.put(None))
     past = Past() if args.resume is None else resumed(args.resume, devices)
     if args.first_line > past.next_line:
         raise ValueError(f"the input begins with line {args.first_line}, and the log goes on from line {past.next_line}")
