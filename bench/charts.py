@@ -105,15 +105,15 @@ class Panel:
             parts.append(text(left - 6, upright.place(ten) + 4, self.tell_up(ten), "end"))
         for number in numbers:
             parts.append(stroke(level.place(number), bottom, level.place(number), bottom + 4, AXIS))
-            parts.append(text(level.place(number), bottom + 17, self.tell_across(number), "middle"))
+            parts.append(text(level.place(number), bottom + 19, self.tell_across(number), "middle"))
         parts.append(stroke(left, bottom, right, bottom, AXIS))
-        parts.append(text((left + right) / 2, bottom + 33, self.across, "middle"))
+        parts.append(text((left + right) / 2, bottom + 35, self.across, "middle"))
         # rtfilter last, so that it lies above the others
         for name, line in sorted(self.lines.items(), key=lambda it: it[0].startswith(OURS)):
             points = [(level.place(number), upright.place(value)) for number, value in sorted(line.items())]
             parts += self.curve(name, points)
         for number, value in self.rings:
-            parts += self.ring(level.place(number), upright.place(value), self.tell_across(number))
+            parts += self.ring(level.place(number), upright.place(value), f"{number:,}")
         return parts + self.names(level, upright)
 
     @staticmethod
@@ -171,7 +171,7 @@ class Dots:
         parts.append(text(self.width - 8, HEAD - 18, "rtfilter", "end", fill=COLOURS[OURS], weight="bold"))
         for ten in scale.tens():
             parts.append(stroke(scale.place(ten), HEAD - 10, scale.place(ten), bottom, GRID if ten != 1 else AXIS))
-            parts.append(text(scale.place(ten), bottom + 14, f"{ten:g}", "middle"))
+            parts.append(text(scale.place(ten), bottom + 14, f"{ten:,g}", "middle"))
         parts.append(text((left + right) / 2, bottom + 28, "times rtfilter's time", "middle"))
         return parts + self.rows(scale, left, right)
 

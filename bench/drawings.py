@@ -5,7 +5,7 @@ import sys
 from charts import Dots, Panel
 from kinds import ALL, NEAREST, QUARTER, WINDOW
 from programs import OURS, ROOT, SCAN
-from words import bytes_told, count_told, time_told
+from words import bytes_told, count_on_axis, count_told, time_told
 
 sys.path.append(str(ROOT / "tools"))
 from pictures import svg
@@ -28,7 +28,7 @@ def over_boxes(growth, title, value, tell_up=time_told, note="processor time"):
     for boxes, found in growth.items():
         for name in found["load"]:
             lines.setdefault(name, {})[int(boxes)] = value(found, name)
-    return Panel(title, "boxes", count_told, tell_up, lines, note)
+    return Panel(title, "boxes", count_on_axis, tell_up, lines, note)
 
 
 def of_line(growth, title, kind):
@@ -118,11 +118,11 @@ def elsewhere(found, growth):
     whole = f"A whole run over {count_told(found['boxes'])} boxes"
     return grid("Whole runs by how many queries they ask, and the change of one box", [
         Panel(
-            whole, "windows asked in the run", count_told, time_told, queries,
+            whole, "windows in the run", count_on_axis, time_told, queries,
             "left of a ring, another is faster", [it for it in meetings if it],
         ),
         Panel(
-            "A change: until one moved box is seen", "boxes", count_told, time_told,
+            "A change: until one moved box is seen", "boxes", count_on_axis, time_told,
             {f"{OURS}: rtfilter: loads all": loads, "SQLite's R*Tree: SQLite: UPDATE": by_number(found["changes"])},
             "rtfilter has no updates: it loads the whole table again",
         ),

@@ -29,6 +29,14 @@ def count_told(count):
     return f"{count:,}"
 
 
+def count_on_axis(number):
+    """A number in few characters, for the ticks of an axis."""
+    for unit, name in ((1_000_000, "M"), (1_000, "k")):
+        if number >= unit and number % unit == 0:
+            return f"{number // unit}{name}"
+    return str(number)
+
+
 def ratio_told(value):
     return f"{value:.2f}" if value < 1 else f"{value:.1f}" if value < 10 else f"{value:,.0f}"
 

@@ -1,5 +1,5 @@
 #!/usr/bin/env python3
-"""Draws the pictures of README.md, of the query language, of the concepts and of the design: docs/pictures/*.svg.
+"""Draws the pictures of the pages: docs/pictures/*.svg.
 
 usage: tools/pictures.py [--check]
 
@@ -28,7 +28,11 @@ import search
 
 # Colours that can be seen on a white page and on a dark one. All text but labels is on a filled shape; labels have a colour for each.
 LINE, WORD, NUMBER, RULE = "#8b949e", "#1f6feb", "#8250df", "#57606a"
-LABELS = "<style>.label{fill:#57606a}@media(prefers-color-scheme:dark){.label{fill:#b1bac4}}</style>"
+# (a label may lie on a line: a rim of the page's colour keeps it legible)
+LABELS = (
+    "<style>.label{fill:#57606a;paint-order:stroke;stroke:#ffffff;stroke-width:3px}"
+    "@media(prefers-color-scheme:dark){.label{fill:#b1bac4;stroke:#0d1117}}</style>"
+)
 REGION, ACCEPTED, REFUSED = "#1f6feb", "#2da44e", "#8b949e"
 MONO = "ui-monospace, SFMono-Regular, Menlo, Consolas, 'DejaVu Sans Mono', monospace"
 SANS = "system-ui, 'Segoe UI', Helvetica, Arial, 'DejaVu Sans', sans-serif"
@@ -187,26 +191,32 @@ def grammar():
     return rules
 
 
-def choice(tokens):
+# The rules that have a picture. The others are short, and are drawn where they are named.
+DRAWN = "query", "question", "region"
+
+
+def choice(tokens, rules):
     """The piece that stands in front of the tokens, up to a closing bracket; what was read is taken away."""
-    ways = [sequence(tokens)]
+    ways = [sequence(tokens, rules)]
     while tokens[:1] == ["|"]:
         tokens.pop(0)
-        ways.append(sequence(tokens))
+        ways.append(sequence(tokens, rules))
     return OneOf(ways) if len(ways) > 1 else ways[0]
 
 
-def sequence(tokens):
+def sequence(tokens, rules):
     pieces = []
     while tokens and tokens[0] not in "|]}":
         token = tokens.pop(0)
         if token in "[{":
-            piece = choice(tokens)
+            piece = choice(tokens, rules)
             tokens.pop(0)
             if token == "{" and pieces and pieces[-1] == piece:
                 pieces[-1] = Again(piece)
             else:
                 pieces.append(MayBe(piece if token == "[" else Again(piece)))
+        elif token in rules and token not in DRAWN:
+            pieces.append(choice([*rules[token]], rules))
         else:
             pieces.append(stop(token))
     return InTurn(pieces) if len(pieces) > 1 else pieces[0]
@@ -261,7 +271,7 @@ NO = f'fill="none" stroke="{REFUSED}" stroke-width="1.5" stroke-dasharray="4 3"'
 NEXT = f'fill="none" stroke="{NUMBER}" stroke-width="2.5" stroke-dasharray="8 3"'
 GIVEN = f'fill="{ACCEPTED}" stroke="{ACCEPTED}" stroke-width="2"'
 UNSEEN = f'fill="none" stroke="{REFUSED}" stroke-width="1"'
-CHILD = f'stroke="{NUMBER}" stroke-width="1.5" stroke-opacity="0.7"'
+SUBTREES = "#1f6feb", "#8250df", "#2da44e", "#bc4c00", "#1b7c83"
 
 # For each region the words that ask for it, and boxes beside it.
 SCENES = {
@@ -394,6 +404,94 @@ def scores():
     return svg(STEP * 56 + 24, STEP * 20 + 44, "The score of a box: a squared distance, or an area", parts)
 
 
+# ---- what is beside what
+
+CARD, CARD_GAP = 46, 34  # the height of a card, and the space below it
+PROVED, TESTED, YOURS = "#1a7f37", "#1f6feb", "#57606a"
+
+
+def card(x, y, width, fill, name, what=""):
+    """A part of the product, with a line that says what it is."""
+    middle, look = x + width / 2, f'text-anchor="middle" fill="#ffffff" font-family="{SANS}"'
+    return [
+        f'<rect x="{x:g}" y="{y:g}" width="{width:g}" height="{CARD}" rx="6" fill="{fill}"/>',
+        f'<text x="{middle:g}" y="{y + (20 if what else 28):g}" font-size="15" font-weight="600" {look}>{escape(name)}</text>',
+        *([f'<text x="{middle:g}" y="{y + 37:g}" font-size="13" {look}>{escape(what)}</text>'] if what else []),
+    ]
+
+
+def link(x, y, length=CARD_GAP):
+    """A line with an arrow that points up: a user of what stands above it."""
+    return [track(f"M{x:g} {y + length:g}V{y + 4:g}"), track(f"M{x - 5:g} {y + 9:g}l5 -6l5 6")]
+
+
+def architecture():
+    """What the engine, the program, the library, the package, the service and the tools are to each other."""
+    row = CARD + CARD_GAP
+    drawn = [
+        *card(20, 12, 840, PROVED, "engine", "packs boxes into a tree, answers queries; answers proved equal to a plain scan"),
+        *card(20, 12 + row, 260, PROVED, "rtfilter", "CSV and query lines in, replies out"),
+        *card(300, 12 + row, 560, PROVED, "librtfilter", "the same engine in your process, by a C header"),
+        *card(20, 12 + 2 * row, 260, TESTED, "rtfilter-serve", "one table for all connections"),
+        *card(300, 12 + 2 * row, 270, TESTED, "C++, Rust, Go", "wrappers of the C header"),
+        *card(590, 12 + 2 * row, 270, TESTED, "Python package", "tables, arrays, geometries, clients"),
+        *card(20, 12 + 3 * row, 260, YOURS, "clients in any language", "over Unix sockets and TCP"),
+        *card(300, 12 + 3 * row, 270, YOURS, "your program", "map server, route planner, checker"),
+        *card(590, 12 + 3 * row, 270, TESTED, "rtfilter-fence, rtfilter-tiles", "and Tables, dask for more boxes"),
+    ]
+    for at, columns in enumerate([(150, 580), (150, 435, 725), (150, 435, 725)]):
+        for x in columns:
+            drawn += link(x, 12 + at * row + CARD)
+    look = text(20, 12 + 4 * row - 4, "green: proved; blue: tested; grey: yours. An arrow points to what is used.")
+    return svg(880, 4 * row + 24, "What the engine, the program, the library, the package, the service and the tools are to each other", [*drawn, look])
+
+
+def scaling():
+    """One process with its threads, a service with its processes, and several tables."""
+
+
+    def row(x, y, fill, names):
+        wide = (260 - 10 * (len(names) - 1)) / len(names)
+        return [it for at, name in enumerate(names) for it in card(x + at * (wide + 10), y, wide, fill, name)]
+
+    def column(x, title, tables, users, *below):
+        arrows = [it for at in range(3) for it in link(x + 260 / 6 + 90 * at, 48 + CARD)]
+        lower = 48 + CARD + CARD_GAP
+        lines = [text(x, lower + CARD + 26 + 20 * at, line) for at, line in enumerate(below)]
+        return [text(x, 30, title), *row(x, 48, PROVED, tables), *arrows, *row(x, lower, TESTED, users), *lines]
+
+    drawn = [
+        *column(12, "one process", ["table"], 3 * ["thread"], "many threads query one table,", "each with its own session"),
+        *column(312, "a service", ["table"], 3 * ["process"], "a process for each connection;", "all share the table's memory"),
+        *column(612, "several tables", 3 * ["table"], ["Tables, dask"], "each table whose bounds overlap", "is queried, answers are merged"),
+    ]
+    return svg(890, 234, "One process with its threads, a service with its processes, and several tables", drawn)
+
+
+def reload():
+    """What stands in memory while a service replaces its table."""
+
+    def bar(start, end, y, fill, name):
+        return [
+            f'<rect x="{start:g}" y="{y:g}" width="{end - start:g}" height="26" rx="4" fill="{fill}"/>',
+            f'<text x="{start + 10:g}" y="{y + 18:g}" font-size="14" fill="#ffffff" font-family="{SANS}">{escape(name)}</text>',
+        ]
+
+    moments = [(250, "SIGHUP"), (430, "new table stands"), (690, "last old connection ends")]
+    drawn = []
+    for x, name in moments:
+        drawn += [f'<line x1="{x}" y1="30" x2="{x}" y2="192" {BEYOND}/>', text(x, 22, name, anchor="middle")]
+    drawn += [
+        *bar(20, 690, 40, RULE, "old table, in memory"),
+        *bar(250, 430, 72, NUMBER, "new table loads"), *bar(434, 840, 72, PROVED, "new table, in memory"),
+        *bar(60, 690, 104, RULE, "a connection from before: answered from the old table"),
+        *bar(460, 800, 136, PROVED, "a connection from after: the new table"),
+        *bar(300, 640, 168, RULE, "a connection during the load: the old table"),
+        text(20, 222, "Old connections end at most --drain seconds after the new table stands. Until then both tables take memory."),
+    ]
+    return svg(890, 236, "What is in memory while a service replaces its table", drawn)
+
+
 def example():
     """The picture of examples/data/boxes.csv."""
     scene = Scene(-7, 32, -7, 17)
@@ -421,26 +519,18 @@ def packed_points():
     for id in range(300):
         x, y = (sum(chance.below(end * 10) for _ in range(3)) // 3 for end in (60, 40))
         table.append(packing.Entry(id, (x, x, y, y), 0))
-    _, nodes, levels = packing.packed(table, 8)
+    entries, nodes, levels = packing.packed(table, 8)
     parts = []
-    for node in nodes:
-        if node.level < 3:
-            parts.append(scene.box([side / 10 for side in node.box], AREA if node.level == 1 else NO))
-    for node in nodes:
-        if node.level == 2:
-            parts += [scene.line(middle(node, 10), middle(child, 10), CHILD) for child in children(node, nodes)]
-            x, y = scene.place(*middle(node, 10))
-            parts.append(f'<circle cx="{x:g}" cy="{y:g}" r="4" fill="{NUMBER}"/>')
-    for point in table:
-        x, y = scene.place(point.box[0] / 10, point.box[2] / 10)
-        parts.append(f'<circle cx="{x:g}" cy="{y:g}" r="2" fill="{ACCEPTED}"/>')
-    title = f"{levels[0]} points in {levels[1]} nodes, drawn solid, and {levels[2]} above them, dashed"
+    for node, colour in zip([node for node in nodes if node.level == 2], SUBTREES, strict=True):
+        whole = f'fill="none" stroke="{colour}" stroke-width="2" stroke-dasharray="6 4"'
+        leaf = f'fill="{colour}" fill-opacity="0.13" stroke="{colour}" stroke-width="1.5"'
+        parts.append(scene.box([side / 10 for side in node.box], whole))
+        parts += [scene.box([side / 10 for side in child.box], leaf) for child in children(node, nodes)]
+        for point in (point for child in children(node, nodes) for point in children(child, entries)):
+            x, y = scene.place(point.box[0] / 10, point.box[2] / 10)
+            parts.append(f'<circle cx="{x:g}" cy="{y:g}" r="2" fill="{colour}"/>')
+    title = f"{levels[0]} points in {levels[1]} nodes, drawn solid, and {levels[2]} above them, dashed, each with its nodes in one colour"
     return scene.picture(title, parts)
-
-
-def middle(box, scale):
-    """The middle of a node's box."""
-    return (box.box[0] + box.box[1]) / (2 * scale), (box.box[2] + box.box[3]) / (2 * scale)
 
 
 def children(node, items):
@@ -482,28 +572,36 @@ def searched():
     parts = [scene.box(nodes[number].box, AREA) for number in opened]
     for number in reached:
         parts.append(scene.box(nodes[number].box, NEXT if (0, number) == waiting[0][1:] else NO))
+    labels = []
     for number in [*opened, *reached]:
         left, right, _, top = nodes[number].box
-        parts.append(scene.label(right - 1 if nodes[number].level == 1 else left + 1, top + 0.9, number))
+        labels.append(scene.label(right - 1 if nodes[number].level == 1 else left + 1, top + 0.9, letter(number)))
     for entry in entries:
         parts.append(scene.box(entry.box, GIVEN if entry.id in given else YES if entry.id in found else UNSEEN))
         if entry.id in given + found:
             left, _, bottom, top = entry.box
-            parts.append(scene.label(left - 1.3, (bottom + top) / 2, entry.id))
+            labels.append(scene.label(left - 1.3, (bottom + top) / 2, entry.id))
+    parts += labels
     x, y = scene.place(*POINT)
     parts.append(f'<circle cx="{x:g}" cy="{y:g}" r="4" fill="{REGION}"/>')
     for row, (score, is_entry, number) in enumerate(waiting):
         x, y = scene.place(52, 30 - 4 * row)
-        name = Stop(f"entry {number}", ACCEPTED, 14) if is_entry else Stop(f"node {number}", RULE, 3)
+        name = Stop(f"entry {number}", ACCEPTED, 14) if is_entry else Stop(f"node {letter(number)}", RULE, 3)
         parts += [*name.draw(x, y), scene.label(65.5, 30 - 4 * row, score)]
     parts.append(scene.label(58, 34, "waiting, with score"))
-    title = f"Nodes {told(opened)} are open, entries {told(given)} were given, and the first that waits is taken next"
+    opened_nodes, answers = listed(map(letter, opened)), listed(map(str, given))
+    title = f"Nodes {opened_nodes} are open, entries {answers} were given, and the first that waits is taken next"
     return scene.picture(title, parts)
 
 
-def told(numbers):
-    """Some numbers, in words."""
-    *front, last = map(str, numbers)
+def letter(node):
+    """The name of a node, which no entry has."""
+    return chr(ord("A") + node)
+
+
+def listed(names):
+    """Some names, in words."""
+    *front, last = names
     return f"{', '.join(front)} and {last}" if front else last
 
 
@@ -519,23 +617,25 @@ def uneven():
     left, right, bottom, top = (side / SCALE for side in packing.node(every, 1, 0).box)
     apart = right - left + 3
     scene = Scene(left, right + apart, bottom, top)
-    parts = [
-        *leaf_nodes(scene, 0, every),
-        *leaf_nodes(scene, apart, [entry for entry in every if entry.layer == 0]),
-    ]
-    return scene.picture("The nodes of level 1 that meet a window are drawn solid, the others dashed", parts)
+    small = [entry for entry in every if entry.layer == 0]
+    parts = [*leaf_nodes(scene, 0, every, "all boxes"), *leaf_nodes(scene, apart, small, "small boxes")]
+    title = "The nodes of level 1 that overlap a window are drawn solid, the others dashed"
+    return svg(STEP * (scene.right - scene.left) + 24, STEP * (scene.top - scene.bottom) + 54, title, parts)
 
 
-def leaf_nodes(scene, shift, entries):
-    """The drawing of the nodes of level 1 over entries, those that meet the window drawn solid, so far to the right."""
+def leaf_nodes(scene, shift, entries, title):
+    """The drawing of the nodes of level 1 over entries, those that overlap the window drawn solid, so far to the right."""
 
     def drawn(box, look):
         min_x, max_x, min_y, max_y = (side / SCALE for side in box)
         return scene.box((min_x + shift, max_x + shift, min_y, max_y), look)
 
     leaves = [node.box for node in packing.packed(entries, FANOUT)[1] if node.level == 1]
-    parts = [drawn(box, AREA if reading.meet(box, UNEVEN) else NO) for box in leaves]
-    return [*parts, drawn(UNEVEN, YES)]
+    met = [box for box in leaves if reading.meet(box, UNEVEN)]
+    parts = [drawn(box, AREA if box in met else NO) for box in leaves]
+    below = scene.place(shift + scene.left, scene.bottom)
+    title = text(below[0], below[1] + 28, f"{title}: {len(met)} of {len(leaves)} nodes")
+    return [*parts, drawn(UNEVEN, YES), title]
 
 
 # ---- all of them
@@ -546,13 +646,17 @@ def pictures():
     yield "front.svg", front()
     yield "sides.svg", sides()
     yield "scores.svg", scores()
+    yield "architecture.svg", architecture()
+    yield "scaling.svg", scaling()
+    yield "reload.svg", reload()
     yield "boxes.svg", example()
     yield "layers.svg", on_layer()
     yield "packed.svg", packed_points()
     yield "search.svg", searched()
     yield "uneven.svg", uneven()
-    for name, tokens in grammar().items():
-        yield f"grammar-{name}.svg", diagram(name, choice(tokens))
+    rules = grammar()
+    for name in DRAWN:
+        yield f"grammar-{name}.svg", diagram(name, choice([*rules[name]], rules))
     for name in SCENES:
         yield f"region-{name}.svg", region(name)
 

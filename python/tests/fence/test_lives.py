@@ -75,6 +75,17 @@ def test_zones_that_are_not_taken(start: Start, zones: Path) -> None:
     assert brief(fence.events.some(1)) == [("a", "leave", "park")]
 
 
+def test_each_of_many_signals_is_met(start: Start, zones: Path) -> None:
+    """Also one that comes just as the fence begins to read its input, on which nothing comes."""
+    fence = start()
+    zones.write_text("[")
+    for _ in range(1_000):
+        fence.process.send_signal(signal.SIGHUP)
+        assert fence.errors.next().endswith(KEPT)
+    fence.process.send_signal(signal.SIGTERM)
+    assert fence.process.wait(LONGEST) == 0
+
+
 def test_many_exchanges_while_positions_come(start: Start, zones: Path) -> None:
     """Each position is answered by the zones of before or of after: no event comes twice, and none is lost."""
     fence, stop = start(), threading.Event()
