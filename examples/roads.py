@@ -97,11 +97,11 @@ def rows(records: Iterator[list[str]], columns: tuple[int, int], lines: Lines, k
 
 def main() -> None:
     parser = argparse.ArgumentParser(description="Writes records again with the lines nearest to their positions.")
-    parser.add_argument("lines", metavar="LINES", help="a GeoJSON file of lines, in degrees")
-    parser.add_argument("positions", metavar="POSITIONS", help="a CSV file with a header")
-    parser.add_argument("--nearest", type=int, default=1, metavar="K", help="the number of lines for each position (1)")
-    parser.add_argument("--columns", default="longitude,latitude", metavar="X,Y", help="those of the degrees (longitude,latitude)")
-    parser.add_argument("--crs", default="EPSG:3857", help="the plane in which lines are nearest, in metres (EPSG:3857)")
+    parser.add_argument("lines", metavar="LINES", help="GeoJSON file of lines, in degrees")
+    parser.add_argument("positions", metavar="POSITIONS", help="CSV file with a header")
+    parser.add_argument("--nearest", type=int, default=1, metavar="K", help="lines for each position, all if there are fewer (default 1)")
+    parser.add_argument("--columns", default="longitude,latitude", metavar="X,Y", help="columns of longitude and latitude, in degrees (default longitude,latitude)")
+    parser.add_argument("--crs", default="EPSG:3857", help="plane in which lines are nearest, in metres, by a name that pyproj takes (default EPSG:3857)")
     args = parser.parse_args()
     if args.nearest < 1:
         parser.error("K is 1 or more")

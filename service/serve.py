@@ -78,21 +78,24 @@ def parser_of_words() -> argparse.ArgumentParser:
     parser = argparse.ArgumentParser(prog="rtfilter-serve", description="Answers rtfilter's query lines over sockets.")
     add, seconds, octal = parser.add_argument, within(float, 0, LONGEST), partial(int, base=8)
     add("table", metavar="TABLE", help="CSV file of the boxes")
-    add("--unix", metavar="PATH", action="append", default=[], help="Unix socket to listen on; may be repeated")
-    add("--mode", type=within(octal, 0, 0o777), default=0o600, help="mode of Unix sockets, in octal (default 600)")
-    add("--tcp", metavar="[HOST:]PORT", type=host_and_port, action="append", default=[], help="TCP port to listen on (default host 127.0.0.1); may be repeated")
+    add("--unix", metavar="PATH", action="append", default=[], help="Unix socket to listen on, replaced if nobody listens on it; may be repeated")
+    add("--mode", type=within(octal, 0, 0o777), default=0o600, help="mode of Unix sockets, in octal: who may write may connect (default 600)")
+    add("--tcp", metavar="[HOST:]PORT", type=host_and_port, action="append", default=[],
+        help="TCP port to listen on, 0 for any free one, [::1]:7878 for IPv6; may be repeated (default host 127.0.0.1)")  # fmt: skip
     add("--health", metavar="[HOST:]PORT", type=host_and_port, help="HTTP port of /health and /metrics")
-    add("--connections", metavar="N", type=within(int, 1, MOST_CONNECTIONS), default=128, help="connections at a time (default 128)")
-    add("--silence", metavar="SECONDS", type=seconds, default=600.0, help="before a silent connection is closed, 0: never (default 600)")
-    add("--patience", metavar="SECONDS", type=seconds, default=60.0, help="before a client that reads nothing is disconnected, 0: never (default 60)")
-    add("--drain", metavar="SECONDS", type=seconds, default=300.0, help="that connections may keep the old table (default 300)")
-    add("--load-timeout", metavar="SECONDS", type=seconds, default=300.0, help="that a load may take (default 300)")
-    add("--program", default="rtfilter", help="the program rtfilter (default: the one on the path)")
+    add("--connections", metavar="N", type=within(int, 1, MOST_CONNECTIONS), default=128, help="connections at a time, 1 to 1048576 (default 128)")
+    add("--silence", metavar="SECONDS", type=seconds, default=600.0, help="time after which a silent connection is closed, 0 for never (default 600)")
+    add("--patience", metavar="SECONDS", type=seconds, default=60.0, help="time that a write of replies may wait for its reader, 0 for ever (default 60)")
+    add("--drain", metavar="SECONDS", type=seconds, default=300.0,
+        help="time that connections may keep the old table, and write replies after SIGTERM (default 300)")  # fmt: skip
+    add("--load-timeout", metavar="SECONDS", type=seconds, default=300.0, help="time that a load may take (default 300)")
+    add("--program", default="rtfilter", help="the program, with rtfilter-prefork.so beside it or in ../lib/rtfilter (default rtfilter, on the path)")
     add("--version", action="version", version=f"%(prog)s {VERSION}", help="print the version")
-    own: dict[str, Any] = {"dest": "options", "default": [], "help": "as the program's option"}
-    add("-H", "--header", action="append_const", const="--header", **own)
-    for name in ("--fanout", "--max-entries"):
-        add(name, metavar="N", action="append", type=f"{name}={{}}".format, **own)
+    own: dict[str, Any] = {"dest": "options", "default": []}
+    add("-H", "--header", action="append_const", const="--header", help="skip the table's first record", **own)
+    add("--fanout", metavar="M", action="append", type="--fanout={}".format, help="most children of a node, 2 to 64 (default 16)", **own)
+    add("--max-entries", metavar="N", action="append", type="--max-entries={}".format,
+        help="most boxes of the table, 1 to 16777216 (default 16777216)", **own)  # fmt: skip
     return parser
 
 

@@ -2,6 +2,8 @@
 
 import contextlib
 import doctest
+import subprocess
+import sys
 import warnings
 from pathlib import Path
 
@@ -24,6 +26,14 @@ def test_examples(name: str, least: int, data: Path) -> None:
         shown: list[str] = []
         failed, _ = doctest.DocTestRunner().run(session, out=shown.append)
     assert failed == 0, "".join(shown)
+
+
+def test_options() -> None:
+    """The options in pages and manual pages are those of each command's help."""
+    for module in ("aiohttp", "pandas", "pyproj", "shapely"):
+        pytest.importorskip(module)
+    done = subprocess.run([sys.executable, ROOT / "tools/options.py", "--check"], stdout=subprocess.PIPE, text=True)
+    assert (done.returncode, done.stdout) == (0, "7 passed, 0 failed\n")
 
 
 @pytest.mark.filterwarnings("ignore")

@@ -29,16 +29,22 @@ def arguments() -> argparse.Namespace:
     parser.add_argument("table", metavar="TABLE", help="CSV file of boxes, in centimetres of Web Mercator; SIGHUP loads it again")
     parser.add_argument("--header", action="store_true", help="skip the table's first record")
     parser.add_argument("--names", metavar="FILE", help="CSV file of ids and names of boxes")
-    parser.add_argument("--layers", metavar="FILE", help="CSV file of layers, 0 to 63, and their names (default layer 3 and so on)")
+    parser.add_argument("--layers", metavar="FILE", help="CSV file of layers, 0 to 63, and their names, all different (default layer 3 and so on)")
     parser.add_argument("--listen", default="127.0.0.1", metavar="ADDRESS", help="address to listen on (default 127.0.0.1)")
     parser.add_argument("--port", type=int, default=8080, help="port to listen on, 0 for any free one (default 8080)")
-    parser.add_argument("--reuse-port", action="store_true", help="let several processes listen on the port")
-    parser.add_argument("--host", action="append", default=[], metavar="NAME", help="another name of this server; may be repeated")
+    parser.add_argument("--reuse-port", action="store_true", help="let several processes listen on the port, each with its own table")
+    parser.add_argument("--host", action="append", default=[], metavar="NAME", help="another name of this server, as behind a proxy; may be repeated")
     parser.add_argument("--url", metavar="URL", help="the server's address behind a proxy, with a slash at its end (default http and the Host)")
-    parser.add_argument("--origin", action="append", default=[], help="origin whose pages may read replies, * for any; may be repeated")
-    parser.add_argument("--max-age", type=int, default=60, metavar="SECONDS", help="that a client may keep a tile (default 60)")
-    parser.add_argument("--log", metavar="FILE", help="file for a line of each request, - for standard error")
-    parser.add_argument("--version", action="version", version=f"{NAME} {__version__}")
+    parser.add_argument(
+        "--origin", action="append", default=[],
+        help="origin whose pages may read replies, as https://maps.example.org, * for any, null for files; may be repeated",
+    )  # fmt: skip
+    parser.add_argument("--max-age", type=int, default=60, metavar="SECONDS", help="time that a client may keep a tile (default 60)")
+    parser.add_argument(
+        "--log", metavar="FILE",
+        help="file for a line of each request, in the Common Log Format, - for standard error; opened again if it was moved away",
+    )  # fmt: skip
+    parser.add_argument("--version", action="version", version=f"{NAME} {__version__}", help="print the version")
     args = parser.parse_args()
     if args.max_age < 0:
         parser.error("an age is 0 or more")
