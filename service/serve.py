@@ -79,7 +79,7 @@ def parser_of_words() -> argparse.ArgumentParser:
     add, seconds, octal = parser.add_argument, within(float, 0, LONGEST), partial(int, base=8)
     add("table", metavar="TABLE", help="CSV file of the boxes")
     add("--unix", metavar="PATH", action="append", default=[], help="Unix socket to listen on, replaced if nobody listens on it; may be repeated")
-    add("--mode", type=within(octal, 0, 0o777), default=0o600, help="mode of Unix sockets, in octal: who may write may connect (default 600)")
+    add("--mode", type=within(octal, 0, 0o777, "{:o}"), default=0o600, help="mode of Unix sockets, in octal: who may write may connect (default 600)")
     add("--tcp", metavar="[HOST:]PORT", type=host_and_port, action="append", default=[],
         help="TCP port to listen on, 0 for any free one, [::1]:7878 for IPv6; may be repeated (default host 127.0.0.1)")  # fmt: skip
     add("--health", metavar="[HOST:]PORT", type=host_and_port, help="HTTP port of /health and /metrics")
@@ -99,13 +99,13 @@ def parser_of_words() -> argparse.ArgumentParser:
     return parser
 
 
-def within(kind: Callable[[str], float], least: float, most: float) -> Callable[[str], float]:
-    """Reads a number in a range."""
+def within(kind: Callable[[str], float], least: float, most: float, written: str = "{:.10g}") -> Callable[[str], float]:
+    """Reads a number in a range, whose ends are written in this form."""
     def number(word: str) -> float:
-        found = kind(word)
-        if not least <= found <= most:
-            raise ValueError
-        return found
+        with contextlib.suppress(ValueError):
+            if least <= (found := kind(word)) <= most:
+                return found
+        raise argparse.ArgumentTypeError(f"{word!r} is no number from {written.format(least)} to {written.format(most)}")
 
     return number
 

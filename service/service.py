@@ -33,6 +33,8 @@ UNREADABLE = 4  # the status of a connection that couldn't be read, or was silen
 NAME = "rtfilter-serve"  # how a line begins that is no reply
 MORE_BOXES = "too many entries", "; docs/scaling.md says what holds more boxes"  # a fault of a table, and what helps
 
+NOT_OPENED = "cannot open table"  # how the program says that
+
 # Of a program, with descriptors for what it writes of its load and later.
 Start = Callable[[int, int, prefork.Common], prefork.Started]
 End = asyncio.Future[int | None]  # the status of a connection's process, or None where it wasn't begun
@@ -50,6 +52,15 @@ def is_journal(descriptor: int) -> bool:
     """Whether systemd's journal takes what is written, by JOURNAL_STREAM."""
     status = os.fstat(descriptor)
     return os.environ.get("JOURNAL_STREAM") == f"{status.st_dev}:{status.st_ino}"
+
+
+def reason(path: str) -> str:
+    """Why a file can't be opened, behind a colon. Empty if it can."""
+    try:
+        os.close(os.open(path, os.O_RDONLY | os.O_NONBLOCK))
+    except OSError as error:
+        return f": {error.strerror}"
+    return ""
 
 
 def send_line(connection: socket.socket, text: str) -> None:
@@ -205,11 +216,14 @@ class Service:
                 return self._switch_to(table, what)
             await self._end(table)
             fault = " ".join(os.pread(errors.fileno(), LONGEST_ERROR, 0).decode(errors="replace").split())
+        if " table" in fault:  # else it is about the options
+            fault = f"{self._args.table}: {fault.removeprefix('rtfilter: ')}"
         fault += MORE_BOXES[1] * (MORE_BOXES[0] in fault)
+        fault += reason(self._args.table) if fault.endswith(NOT_OPENED) else ""
         self._counts["loads_failed_total"] += 1
         self._status = max(table.process.returncode, NO_SERVICE)
         if not is_over:
-            fault = f"it wasn't loaded in {self._args.load_timeout:g} seconds"
+            fault = f"{self._args.table}: not loaded in {self._args.load_timeout:g} seconds"
         elif status := table.first_end.result():
             why = os.strerror(-status) if status < 0 else f"status {os.waitstatus_to_exitcode(status)}"
             fault = f"it can't serve a connection: {why}"

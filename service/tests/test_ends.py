@@ -231,7 +231,7 @@ class Ends(Case):
         service = self.served(table)
         table.unlink()
         send(signal.SIGKILL, service.programs)
-        service.logs("^the new table isn't taken, there is none: rtfilter: cannot open table$", 4)
+        service.logs(f"^the new table isn't taken, there is none: {table}: cannot open table: No such file or directory$", 4)
         begun = time.monotonic()
         service.logs("there is none", 5)
         self.assertGreater(time.monotonic() - begun, 0.5)
@@ -259,8 +259,8 @@ class Ends(Case):
 
     def test_a_table_that_does_not_load(self) -> None:
         for text, status, told in (
-            ("1,1,0,0,0\n", 3, "rtfilter: table record 1: minimum above maximum in x"),
-            (None, 3, "rtfilter: cannot open table"),
+            ("1,1,0,0,0\n", 3, f"{self.folder}/table: table record 1: minimum above maximum in x"),
+            (None, 3, f"{self.folder}/table: cannot open table: No such file or directory"),
             ("1,0,1,0,1\n", 2, "rtfilter: bad command line"),
         ):
             table = Path(self.folder, "table")
@@ -278,7 +278,7 @@ class Ends(Case):
         os.mkfifo(table)
         service = self.served(table, "--load-timeout", "0.3")
         self.assertEqual(service.process.wait(10), 1)
-        service.logs("^it wasn't loaded in 0.3 seconds$")
+        service.logs(f"^{table}: not loaded in 0.3 seconds$")
 
     def test_connections_that_cannot_be_set_up(self) -> None:
         """There is no service of them, and their status is told."""

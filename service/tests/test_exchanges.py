@@ -190,10 +190,10 @@ class Exchanges(Case):
         with service.connect() as asker:
             for at, (text, told) in enumerate(
                 (
-                    ("1,0,1,0,1\n1,0,1,0,1\n", "rtfilter: table record 2: repeated id"),
-                    ("1,1,0,0,1\n", "rtfilter: table record 1: minimum above maximum in x"),
-                    (None, "rtfilter: cannot open table"),
-                    ("FIFO", "it wasn't loaded in 0.4 seconds"),
+                    ("1,0,1,0,1\n1,0,1,0,1\n", "table record 2: repeated id"),
+                    ("1,1,0,0,1\n", "table record 1: minimum above maximum in x"),
+                    (None, "cannot open table: No such file or directory"),
+                    ("FIFO", "not loaded in 0.4 seconds"),
                 ),
                 1,
             ):
@@ -204,7 +204,7 @@ class Exchanges(Case):
                     self.table.write_text(text)
                 lines = len(service.log.splitlines())
                 service.signal(signal.SIGHUP)
-                service.logs(f"^the new table isn't taken, the old one stays: {told}$")
+                service.logs(f"^the new table isn't taken, the old one stays: {self.table}: {told}$")
                 asker.sendall(b"count all\n")
                 self.assertEqual(read_lines(asker, 1), b"ok %d 5\n" % at)
                 self.assertEqual(len(service.log.splitlines()), lines + 1)
@@ -237,7 +237,7 @@ class Exchanges(Case):
 
         with all_of([threading.Thread(target=write)]):
             service.signal(signal.SIGHUP)
-            service.logs("it wasn't loaded in 0.5 seconds$")
+            service.logs("not loaded in 0.5 seconds$")
             is_over.set()
         self.assertEqual(len(service.programs), 1)
         self.assert_well(service)

@@ -107,7 +107,7 @@ class Health(Case):
             more.write("6,0,1,0,1\n")
         service.signal(signal.SIGHUP)
         fault = "table record 6: too many entries; docs/scaling.md says what holds more boxes"
-        service.logs(f"^the new table isn't taken, the old one stays: rtfilter: {fault}$")
+        service.logs(f"^the new table isn't taken, the old one stays: {table}: {fault}$")
         self.assertEqual([service.metric(f"rtfilter_{it}") for it in ("table_generation", "loads_failed_total")], [2, 1])
 
     def test_busy_seconds(self) -> None:
@@ -142,7 +142,7 @@ class Health(Case):
             words = ["--unix", f"{self.folder}/other", "--program", PROGRAM, "/no/such/table"]
             subprocess.run([sys.executable, "-B", SERVICE, *words], stderr=journal, env=stream, timeout=20)
         told = Path(self.folder, "journal").read_text().splitlines()
-        self.assertEqual(told, [f"listening on {self.folder}/other", "rtfilter: cannot open table"])
+        self.assertEqual(told, [f"listening on {self.folder}/other", "/no/such/table: cannot open table: No such file or directory"])
 
     def test_requests(self) -> None:
         service = self.served(BOXES, "--health", "0")
