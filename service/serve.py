@@ -79,7 +79,7 @@ def parser_of_words() -> argparse.ArgumentParser:
     add, seconds, octal = parser.add_argument, within(float, 0, LONGEST), partial(int, base=8)
     add("table", metavar="TABLE", help="CSV file of the boxes")
     add("--unix", metavar="PATH", action="append", default=[], help="Unix socket to listen on, replaced if nobody listens on it; may be repeated")
-    add("--mode", type=within(octal, 0, 0o777, "{:o}"), default=0o600, help="mode of Unix sockets, in octal: who may write may connect (default 600)")
+    add("--mode", type=within(octal, 0, 0o777, "{:o}"), default=0o600, help="mode of Unix sockets, in octal: users with write permission may connect (default 600)")
     add("--tcp", metavar="[HOST:]PORT", type=host_and_port, action="append", default=[],
         help="TCP port to listen on, 0 for any free one, [::1]:7878 for IPv6; may be repeated (default host 127.0.0.1)")  # fmt: skip
     add("--health", metavar="[HOST:]PORT", type=host_and_port, help="HTTP port of /health and /metrics")
