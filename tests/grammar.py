@@ -18,7 +18,6 @@ ROOT = Path(__file__).resolve().parent.parent
 BOXES = ROOT / "examples/data/boxes.csv"
 
 sys.dont_write_bytecode = True
-sys.path.insert(0, str(ROOT / "tools"))
 from checks import status_of
 from pictures import PAGE, grammar
 

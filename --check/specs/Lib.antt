@@ -1,0 +1,2 @@
+pub mod LeftOf
+pub mod Uneven
