@@ -1,14 +1,11 @@
 """Charts as SVG, for a white page and for a dark one: lines over two logarithmic scales, and rows of dots."""
 
 import math
-import sys
 from dataclasses import dataclass, field
 from html import escape
 
-from programs import OURS, ROOT, SCAN
-
-sys.path.append(str(ROOT / "tools"))
-from pictures import LINE, REGION, SANS
+from programs import OURS, SCAN
+from svg import LINE, REGION, SANS
 
 COLOURS = {
     OURS: "#1f6feb",

@@ -1,14 +1,10 @@
 """The pictures of what bench/bench.py found."""
 
-import sys
-
 from charts import Dots, Panel
 from kinds import ALL, NEAREST, QUARTER, WINDOW
-from programs import OURS, ROOT, SCAN
+from programs import OURS, SCAN
+from svg import svg
 from words import bytes_told, count_on_axis, count_told, time_told
-
-sys.path.append(str(ROOT / "tools"))
-from pictures import svg
 
 WIDTH, HEIGHT = 440, 290  # of a panel with what stands round it
 

@@ -18,7 +18,7 @@ ROOT = Path(__file__).resolve().parent.parent
 BOXES = ROOT / "examples/data/boxes.csv"
 
 sys.dont_write_bytecode = True
-sys.path.insert(0, str(ROOT / "tools"))
+from checks import status_of
 from pictures import PAGE, grammar
 
 # Numbers that suit each other, and the vertices of a polygon in the place of its points.
@@ -114,19 +114,18 @@ def replies(program, lines):
     return re.findall(r"^(?:ok|error) .*$", done.stdout.decode(), re.MULTILINE)
 
 
+def first_fault(program, lines):
+    """What is wrong with the first reply that isn't the expected one, or with their number."""
+    found = replies(program, [line for line, _ in lines])
+    wrong = next((case for case in zip(lines, found) if not re.fullmatch(case[0][1], case[1])), None)
+    return wrong or (None if len(found) == len(lines) else "lines without reply")
+
+
 def main():
-    program, rules, ends, failed = Path(sys.argv[1]).resolve(), grammar(), ranges(), 0
+    program, rules, ends = Path(sys.argv[1]).resolve(), grammar(), ranges()
     found = ways(rules, rules["query"])
     whole = [words(way) for way in found]
-    for way in found:
-        lines = [*cases(way, whole, ends)]
-        told = replies(program, [line for line, _ in lines])
-        wrong = next((case for case in zip(lines, told) if not re.fullmatch(case[0][1], case[1])), None)
-        if wrong or len(told) != len(lines):
-            failed += 1
-            print(f"FAIL {' '.join(words(way))}: {wrong or 'lines without reply'}")
-    print(f"{len(found) - failed} passed, {failed} failed")
-    return int(failed > 0)
+    return status_of((" ".join(words(way)), first_fault(program, [*cases(way, whole, ends)])) for way in found)
 
 
 if __name__ == "__main__":

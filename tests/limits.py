@@ -19,6 +19,8 @@ import sys
 import tempfile
 from pathlib import Path
 
+from checks import difference, status_of
+
 FIVE = b"1,0,10,0,10\n2,5,15,5,15\n3,20,30,0,10\n4,-5,-1,-5,-1\n5,12,12,12,12\n"
 COUNT = b"count all\n"
 MEGABYTE = 1 << 20
@@ -176,17 +178,9 @@ def writes(program, folder):
 
 def main():
     program = str(Path(sys.argv[1]).resolve())
-    passed = failed = 0
-    with tempfile.TemporaryDirectory() as name:
-        for part in (long_input, long_words, large_tables, memory, writes):
-            for name_of_case, wanted, found in part(program, Path(name)):
-                if found == wanted:
-                    passed += 1
-                else:
-                    failed += 1
-                    print(f"FAIL {name_of_case}\n  expected {wanted!s:.300}\n  found    {found!s:.300}")
-    print(f"{passed} passed, {failed} failed")
-    return int(failed > 0)
+    with tempfile.TemporaryDirectory() as folder:
+        parts = (part(program, Path(folder)) for part in (long_input, long_words, large_tables, memory, writes))
+        return status_of((name, difference(expected, found)) for part in parts for name, expected, found in part)
 
 
 if __name__ == "__main__":

@@ -19,6 +19,8 @@ import threading
 import time
 from pathlib import Path
 
+from checks import difference, status_of
+
 BOXES = b"1,0,10,0,10\n2,5,15,5,15\n3,20,30,0,10\n4,-5,-1,-5,-1\n5,12,12,12,12\n"
 LAYERED = b"1,0,10,0,10,3\n2,5,15,5,15\n"
 HEADER = b"id,minX,maxX,minY,maxY\n"
@@ -452,18 +454,10 @@ def outcomes(program, folder):
 
 def main():
     program = str(Path(sys.argv[1]).resolve())
-    passed = failed = 0
     with tempfile.TemporaryDirectory() as folder:
         for name, content in FILES.items():
             Path(folder, name).write_bytes(content)
-        for name, expected, found in outcomes(program, folder):
-            if found == expected:
-                passed += 1
-            else:
-                failed += 1
-                print(f"FAIL {name}\n  expected {expected!s:.500}\n  found    {found!s:.500}")
-    print(f"{passed} passed, {failed} failed")
-    return int(failed > 0)
+        return status_of((name, difference(expected, found)) for name, expected, found in outcomes(program, folder))
 
 
 if __name__ == "__main__":

@@ -21,6 +21,7 @@ from pathlib import Path
 
 sys.dont_write_bytecode = True
 import reading
+from checks import status_of
 from reading import FAULTS, LONGEST_LINE, MARK
 
 RUNS, COST_RUNS, LIMIT_RUNS = 40, 8, 2
@@ -533,6 +534,19 @@ def lacks(met, seeds):
     return seldom + [f"errors ({met['error']}) beside {met['ok']} answered lines"] * (met["error"] < met["ok"])
 
 
+def outcomes(program, seeds):
+    """The runs of each seed, and how often each kind of line was met in all of them."""
+    met = collections.Counter()
+    with tempfile.TemporaryDirectory() as folder:
+        for seed in seeds:
+            chance = random.Random(seed)
+            runs = [differs(program, folder, chance, met) for _ in range(RUNS)]
+            runs += [costs_differ(program, folder, chance, met) for _ in range(COST_RUNS)]
+            runs += [limits_differ(program, folder, chance, met) for _ in range(LIMIT_RUNS)]
+            yield f"seed {seed}", next(filter(None, runs), None)
+    yield "met too seldom", ", ".join(lacks(met, len(seeds))) or None
+
+
 def main():
     parser = argparse.ArgumentParser()
     parser.add_argument("program")
@@ -540,23 +554,7 @@ def main():
     parser.add_argument("--seeds", type=int, default=20)
     args = parser.parse_args()
     program = str(Path(args.program).resolve())
-    met, failed = collections.Counter(), 0
-    with tempfile.TemporaryDirectory() as folder:
-        for seed in range(args.first, args.first + args.seeds):
-            chance = random.Random(seed)
-            runs = [differs(program, folder, chance, met) for _ in range(RUNS)]
-            runs += [costs_differ(program, folder, chance, met) for _ in range(COST_RUNS)]
-            runs += [limits_differ(program, folder, chance, met) for _ in range(LIMIT_RUNS)]
-            wrong = next(filter(None, runs), None)
-            if wrong:
-                failed += 1
-                print(f"FAIL seed {seed}: {wrong}")
-    seldom = lacks(met, args.seeds)
-    if seldom:
-        failed += 1
-        print(f"FAIL met too seldom: {', '.join(seldom)}")
-    print(f"{args.seeds + 1 - failed} passed, {failed} failed")
-    return int(failed > 0)
+    return status_of(outcomes(program, range(args.first, args.first + args.seeds)))
 
 
 if __name__ == "__main__":

@@ -27,6 +27,7 @@ from pathlib import Path
 sys.dont_write_bytecode = True
 import random_runs
 import reading
+from checks import status_of
 
 ROOT = Path(__file__).resolve().parent.parent
 DATA = ROOT / "examples/data"
@@ -281,27 +282,24 @@ def outcomes(refuser, program):
     yield from calls(refuser)
 
 
+def judged(name, count, wrong):
+    """A check, by how many runs were refused and what was wrong in them."""
+    if count and not wrong:
+        print(f"{name}: refused in {count} runs")
+        return name, None
+    return name, "\n  ".join([*wrong, *["nothing was refused"] * (count == 0)][:5])
+
+
 def main():
     program = str(Path(sys.argv[1]).resolve())
     compiler = shutil.which(os.environ.get("CC", "cc"))
     if compiler is None:
         print("skipped refusals: no C compiler\n0 passed, 0 failed")
         return 0
-    passed = failed = 0
     with tempfile.TemporaryDirectory() as folder:
         for name, content in FILES.items():
             Path(folder, name).write_bytes(content)
-        for name, count, wrong in outcomes(Refuser(compiler, folder), program):
-            if count == 0:
-                wrong = [*wrong, "nothing was refused"]
-            if wrong:
-                failed += 1
-                print(f"FAIL {name}", *wrong[:5], sep="\n  ")
-            else:
-                passed += 1
-                print(f"{name}: refused in {count} runs")
-    print(f"{passed} passed, {failed} failed")
-    return int(failed > 0)
+        return status_of(judged(*it) for it in outcomes(Refuser(compiler, folder), program))
 
 
 if __name__ == "__main__":

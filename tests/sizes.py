@@ -14,6 +14,8 @@ import sys
 import tempfile
 from pathlib import Path
 
+from checks import difference, status_of
+
 FANOUTS = range(2, 65)
 GREATEST_POWER = 64**3
 EACH_SIZE = range(1001)
@@ -92,19 +94,11 @@ def full(program, queries):
 
 def main():
     program = str(Path(sys.argv[1]).resolve())
-    passed = failed = 0
     with tempfile.TemporaryDirectory() as folder:
         queries = Path(folder, "queries")
         queries.write_bytes(QUERIES)
         outcomes = full if "--full" in sys.argv else usual
-        for name, wanted, found in outcomes(program, queries):
-            if found == wanted:
-                passed += 1
-            else:
-                failed += 1
-                print(f"FAIL {name}\n  expected {wanted!s:.300}\n  found    {found!s:.300}")
-    print(f"{passed} passed, {failed} failed")
-    return int(failed > 0)
+        return status_of((name, difference(expected, found)) for name, expected, found in outcomes(program, queries))
 
 
 if __name__ == "__main__":

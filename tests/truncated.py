@@ -14,6 +14,7 @@ from pathlib import Path
 
 sys.dont_write_bytecode = True
 import reading
+from checks import difference, status_of
 
 QUERIES = b"find all\nfind all on 3,63\ncost find all near 0 0 first 1\nlevels"
 MARK = reading.MARK
@@ -47,9 +48,9 @@ def run(program, folder, words):
     return done.returncode, done.stdout, done.stderr
 
 
-def differences(program, folder, table):
-    """Which fronts aren't as they are read, and the statuses of all."""
-    wrong, statuses = [], set()
+def first_fault(program, folder, table):
+    """What is wrong with the first front that isn't as it is read, or with the statuses of all."""
+    statuses = set()
     for size in range(len(table) + 1):
         Path(folder, "table").write_bytes(table[:size])
         for header in (False, True):
@@ -57,27 +58,15 @@ def differences(program, folder, table):
             found = run(program, folder, ["--header"] * header)
             statuses.add(wanted[0])
             if found != wanted:
-                wrong.append(f"{size} bytes, header {header}\n  expected {wanted}\n  found    {found}")
-    return wrong, statuses
+                return f"{size} bytes, header {header}: {difference(wanted, found)}"
+    return None if statuses == {0, 3} else f"the only statuses were {statuses}"
 
 
 def main():
     program = str(Path(sys.argv[1]).resolve())
-    passed = failed = runs = 0
+    print(f"{sum(2 * (len(it) + 1) for it in TABLES.values())} fronts of {len(TABLES)} tables")
     with tempfile.TemporaryDirectory() as folder:
-        for name, table in TABLES.items():
-            wrong, statuses = differences(program, folder, table)
-            runs += 2 * (len(table) + 1)
-            if statuses != {0, 3}:
-                wrong.append(f"the only statuses were {statuses}")
-            if wrong:
-                failed += 1
-                print(f"FAIL {name}: {wrong[0]}")
-            else:
-                passed += 1
-    print(f"{runs} fronts of {len(TABLES)} tables")
-    print(f"{passed} passed, {failed} failed")
-    return int(failed > 0)
+        return status_of((name, first_fault(program, folder, table)) for name, table in TABLES.items())
 
 
 if __name__ == "__main__":

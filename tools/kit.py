@@ -18,7 +18,6 @@ PARTS = "src", "specs", "proofs", "edits"
 def load():
     """The module of the command `rt`."""
     path = os.path.realpath(shutil.which("rt"))
-    sys.path.insert(0, os.path.dirname(path))
     loader = importlib.machinery.SourceFileLoader("rt", path)
     module = importlib.util.module_from_spec(importlib.util.spec_from_loader("rt", loader))
     loader.exec_module(module)

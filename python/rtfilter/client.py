@@ -6,9 +6,9 @@ import socket
 import threading
 import time
 from collections.abc import Iterable
-from types import TracebackType
-from typing import Any, Self, Union
+from typing import Any, Union
 
+from .calls import SingleCalls
 from .errors import Disconnected, TimedOut
 from .regions import All, Layers, Order, Region, count_line, find_line, nearest_line
 from .replies import MARKER, Answers, Reply, cut, ended, is_whole, joined, listed, reason, renumbered, single
@@ -88,7 +88,7 @@ class Connection:
         self._socket.close()
 
 
-class Client:
+class Client(SingleCalls):
     """A table that a service holds. The calls are those of `Rtfilter`.
 
     Threads may share a client, whose connection answers one call at a time. `timeout` is how many seconds a call may take,
@@ -104,12 +104,6 @@ class Client:
         self._is_closed = False
         self._connection: Connection | None = Connection(address, Deadline(timeout))
 
-    def __enter__(self) -> Self:
-        return self
-
-    def __exit__(self, kind: type[BaseException] | None, error: BaseException | None, trace: TracebackType | None) -> None:
-        self.close()
-
     def __reduce__(self) -> str:
         raise TypeError("a client can't be pickled: make one in each process")
 
@@ -117,29 +111,11 @@ class Client:
         """How many boxes there are."""
         return self.count(All())
 
-    def __bool__(self) -> bool:
-        return True
-
-    def find(
-        self,
-        region: Region,
-        order: Order | None = None,
-        first: int | None = None,
-        *,
-        on: Layers | None = None,
-        scores: bool = False,
-    ) -> list[Any]:
-        """The ids of the boxes that a region accepts, in order, or with `scores` pairs (id, score)."""
-        answers = self._single(find_line(region, order, first, on))
-        return [*zip(answers.ids, answers.scores)] if scores else answers.ids
-
     def nearest(self, k: int, x: int, y: int) -> list[tuple[int, int]]:
-        """The k boxes nearest to a point: pairs of an id and the square of the distance."""
         answers = self._single(nearest_line(k, x, y))
         return [*zip(answers.ids, answers.scores)]
 
     def count(self, region: Region, *, on: Layers | None = None) -> int:
-        """How many boxes a region accepts."""
         return self._single(count_line(region, on)).total
 
     def cost_of_find(
@@ -174,6 +150,10 @@ class Client:
         self._is_closed = True
         if self._caller is None:
             self._drop()
+
+    def _find(self, region: Region, order: Order | None, first: int | None, on: Layers | None, scores: bool) -> list[Any]:
+        answers = self._single(find_line(region, order, first, on))
+        return [*zip(answers.ids, answers.scores)] if scores else answers.ids
 
     def _single(self, line: str) -> Answers:
         replies, before = self._exchange(joined([line]), 1)

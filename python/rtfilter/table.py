@@ -7,8 +7,9 @@ from types import TracebackType
 from typing import TYPE_CHECKING, Any, NoReturn, Self
 
 from . import _engine
+from .calls import BulkCalls, Closable
 from .errors import FIELD_COUNT, FLOATS, OUT_OF_RANGE, QueryError, TableError
-from .regions import CLASSES, Layers, Order, Window
+from .regions import CLASSES
 from .replies import Reply, cut, joined, listed
 
 if TYPE_CHECKING:
@@ -24,7 +25,7 @@ CODES = "qiiiiB"  # as the module array does
 MOST_ENTRIES = 16_777_216
 
 
-class Rtfilter(_engine.Table):
+class Rtfilter(_engine.Table, Closable, BulkCalls):
     """A table of boxes, which any number of threads may query at the same time.
 
     `table` is the name of a CSV file; rows of (id, min_x, max_x, min_y, max_y) or of these and a layer; an array of shape
@@ -98,21 +99,12 @@ class Rtfilter(_engine.Table):
                     raise TypeError(f"row {record - 1}: {FIELDS[at]} is {number!r}, and not a whole number{help}") from None
         return cls._open_arrays(tuple(columns), fanout, max_entries)
 
-    def __enter__(self) -> Self:
-        return self
-
-    def __exit__(self, kind: type[BaseException] | None, error: BaseException | None, trace: TracebackType | None) -> None:
-        self.close()
-
     def __reduce__(self) -> Any:
         raise TypeError("a table can't be pickled: open it in each process, or fork")
 
     def __len__(self) -> int:
         """How many boxes there are."""
         return self._info()[0]
-
-    def __bool__(self) -> bool:
-        return True
 
     def levels(self) -> list[tuple[int, int]]:
         """The levels of the tree from the top, each with how many nodes it has; level 0 is that of the boxes."""
@@ -132,42 +124,6 @@ class Rtfilter(_engine.Table):
         """The replies to query lines: Answers, a QueryError for a faulty line, None for a blank one and a comment."""
         texts = listed(lines)
         return cut(self._text(joined(texts)), texts)
-
-    def find_each(
-        self,
-        windows: Any = None,
-        *,
-        bounds: Any = None,
-        region: type = Window,
-        order: Order | None = None,
-        first: int | None = None,
-        on: Layers | None = None,
-    ) -> "tuple[NDArray[Any], NDArray[Any]]":
-        """The places of many windows, from 0, and the ids of the boxes that each accepts, as two arrays.
-
-        `windows` are rows of the numbers of a region, `bounds` in their place rows of min_x, min_y, max_x, max_y: an array, a
-        frame with columns of these names, or a list. `region` is any of the classes but Polygon.
-        """
-        from . import arrays
-
-        places, ids, _ = self._found(arrays.queries_of(windows, bounds, region, order, first, on), False)
-        return places, ids
-
-    def nearest_each(self, points: Any, k: int) -> "tuple[NDArray[Any], NDArray[Any], NDArray[Any]]":
-        """The places of many points, rows of x and y, the ids of the k boxes nearest to each, and the squares of their
-        distances, as three arrays."""
-        from . import arrays
-
-        columns = arrays.columns_of(points, "points", arrays.POINT)
-        return self._found(arrays.Nearest(columns, k), True)
-
-    def count_each(
-        self, windows: Any = None, *, bounds: Any = None, region: type = Window, on: Layers | None = None
-    ) -> "NDArray[Any]":
-        """How many boxes each of many windows accepts, as an array. The arguments are those of `find_each`."""
-        from . import arrays
-
-        return self._counted(arrays.queries_of(windows, bounds, region, None, None, on))
 
     def _counted(self, queries: "Queries") -> "NDArray[Any]":
         import numpy

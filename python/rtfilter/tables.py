@@ -3,9 +3,9 @@
 from collections.abc import Callable, Iterable
 from itertools import chain
 from operator import itemgetter
-from types import TracebackType
-from typing import TYPE_CHECKING, Any, NoReturn, Self
+from typing import TYPE_CHECKING, Any, NoReturn
 
+from .calls import BulkCalls, SingleCalls
 from .client import Client
 from .errors import QueryError
 from .regions import All, Circle, Covers, Inside, Layers, Near, Order, Polygon, Region, Window
@@ -25,12 +25,13 @@ PART = 65_536  # queries that are merged at once: a signal is handled between tw
 FEW = 1000  # queries for which threads take longer to start than the tables to answer
 
 
-class Tables:
+class Tables(SingleCalls, BulkCalls):
     """Several tables, queried as one. Answers are exact: those that one table of all boxes would give.
 
     `members` are tables of this process, or clients of services. Ids have to be distinct over all members, which isn't checked.
     A query goes to the tables whose bounds it overlaps; a client is always queried, since its service may load another table.
     Any number of threads may query at the same time. Raises ValueError where there are no members, TypeError for other ones.
+    The calls for many queries raise TypeError where a member is a client.
     """
 
     def __init__(self, members: Iterable[Rtfilter | Client]) -> None:
@@ -42,21 +43,12 @@ class Tables:
                 raise TypeError(f"a member is an Rtfilter or a Client, and not {it!r:.200}")
         self._bounded: list[Member] = [(it, it.bounds if isinstance(it, Rtfilter) else ANYWHERE) for it in self._members]
 
-    def __enter__(self) -> Self:
-        return self
-
-    def __exit__(self, kind: type[BaseException] | None, error: BaseException | None, trace: TracebackType | None) -> None:
-        self.close()
-
     def __reduce__(self) -> str:
         raise TypeError("tables can't be pickled: open them in each process, or fork")
 
     def __len__(self) -> int:
         """How many boxes there are in all tables."""
         return sum(len(it) for it in self._members)
-
-    def __bool__(self) -> bool:
-        return True
 
     @property
     def bounds(self) -> Bounds | None:
@@ -73,16 +65,7 @@ class Tables:
         for it in self._members:
             it.close()
 
-    def find(
-        self,
-        region: Region,
-        order: Order | None = None,
-        first: int | None = None,
-        *,
-        on: Layers | None = None,
-        scores: bool = False,
-    ) -> list[Any]:
-        """The ids of the boxes that a region accepts, in order, or with `scores` pairs (id, score)."""
+    def _find(self, region: Region, order: Order | None, first: int | None, on: Layers | None, scores: bool) -> list[Any]:
         members = self._overlapping(region)
         if len(members) == 1:
             found: list[Any] = members[0][0].find(region, order, first, on=on, scores=scores)
@@ -96,57 +79,10 @@ class Tables:
         return [it for it, _ in pairs]
 
     def nearest(self, k: int, x: int, y: int) -> list[Pair]:
-        """The k boxes nearest to a point: pairs of an id and the square of the distance."""
         return _by_distance(self._overlapping(All()), x, y, k, lambda it: it.nearest(k, x, y))
 
     def count(self, region: Region, *, on: Layers | None = None) -> int:
-        """How many boxes a region accepts."""
         return sum([it.count(region, on=on) for it, _ in self._overlapping(region)])
-
-    def find_each(
-        self,
-        windows: Any = None,
-        *,
-        bounds: Any = None,
-        region: type = Window,
-        order: Order | None = None,
-        first: int | None = None,
-        on: Layers | None = None,
-    ) -> "tuple[NDArray[Any], NDArray[Any]]":
-        """The places of many windows and the ids of the boxes that each accepts, as `Rtfilter.find_each` gives them. Raises
-        TypeError where a member is a client."""
-        from . import arrays
-
-        places, ids, _ = self._found(arrays.queries_of(windows, bounds, region, order, first, on))
-        return places, ids
-
-    def nearest_each(self, points: Any, k: int) -> "tuple[NDArray[Any], NDArray[Any], NDArray[Any]]":
-        """The places of many points, the ids of the k boxes nearest to each and the squares of their distances, as
-        `Rtfilter.nearest_each` gives them. Raises TypeError where a member is a client."""
-        from . import arrays
-
-        places, ids, scores = self._found(arrays.Nearest(arrays.columns_of(points, "points", arrays.POINT), k))
-        assert scores is not None  # the nearest have scores
-        return places, ids, scores
-
-    def count_each(
-        self, windows: Any = None, *, bounds: Any = None, region: type = Window, on: Layers | None = None
-    ) -> "NDArray[Any]":
-        """How many boxes each of many windows accepts, as `Rtfilter.count_each` gives it. Raises TypeError where a member is a
-        client."""
-        import numpy
-
-        from . import arrays, merging
-
-        tables = self._tables("count_each")
-        queries = arrays.queries_of(windows, bounds, region, None, None, on)
-        counts = numpy.zeros(len(queries), "u8")
-        for begin in range(0, len(queries), PART):
-            some = queries.rows(slice(begin, begin + PART))
-            jobs = _jobs(tables, merging.first_rows(some, merging.bounds_of(tables)))
-            for (_, rows), found in zip(jobs, _run(lambda table, rows: table._counted(some.rows(rows)), jobs, begin)):
-                counts[begin + rows] += found
-        return counts
 
     def levels(self) -> NoReturn:
         """Raises TypeError: levels are those of one tree."""
@@ -168,8 +104,7 @@ class Tables:
             raise TypeError(f"{call}: a client has single calls alone")
         return tables
 
-    def _found(self, queries: "Queries") -> "Piece":
-        """The answers to many queries: their places, ids, and scores where they are ordered by them."""
+    def _found(self, queries: "Queries", has_scores: bool) -> tuple[Any, Any, Any]:
         import numpy
 
         tables = self._tables("find_each and nearest_each")
@@ -178,7 +113,21 @@ class Tables:
             places, ids, scores = _merged(tables, queries.rows(slice(begin, begin + PART)), begin)
             pieces.append((places + begin, ids, scores))
         places, ids = (numpy.concatenate([it[at] for it in pieces]) for at in (0, 1))
-        return places, ids, numpy.concatenate([it[2] for it in pieces]) if queries.is_scored else None
+        return places, ids, numpy.concatenate([it[2] for it in pieces]) if has_scores else None
+
+    def _counted(self, queries: "Queries") -> "NDArray[Any]":
+        import numpy
+
+        from . import merging
+
+        tables = self._tables("count_each")
+        counts = numpy.zeros(len(queries), "u8")
+        for begin in range(0, len(queries), PART):
+            some = queries.rows(slice(begin, begin + PART))
+            jobs = _jobs(tables, merging.first_rows(some, merging.bounds_of(tables)))
+            for (_, rows), found in zip(jobs, _run(lambda table, rows: table._counted(some.rows(rows)), jobs, begin)):
+                counts[begin + rows] += found
+        return counts
 
 
 def _ordered(

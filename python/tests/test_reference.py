@@ -36,7 +36,8 @@ def public() -> Iterator[tuple[str, Any]]:
         if inspect.isclass(value) or inspect.isfunction(value):
             yield name, value
         if inspect.isclass(value):
-            members = [(it, found) for it, found in vars(value).items() if not it.startswith("_")]
+            bases = [it for it in reversed(value.__mro__) if it.__module__.startswith("rtfilter.")]
+            members = [(it, getattr(value, it)) for base in bases for it in vars(base) if not it.startswith("_")]
             yield from ((f"{name}.{it}", found) for it, found in members if inspect.isfunction(found) or isinstance(found, property))
 
 

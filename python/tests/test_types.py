@@ -39,21 +39,27 @@ def private_names(file: Path) -> Iterator[str]:
                     yield f"{file.relative_to(ROOT)}:{node.lineno}: {name}"
 
 
-# Scripts that import from a folder beside their own. All other modules are found by PYTHONPATH alone.
-EDITING = {"bench/charts.py", "bench/drawings.py", "tests/grammar.py", "tools/kit.py", "tools/pictures.py"}
-
-
 def uses_of_the_path(file: Path) -> Iterator[str]:
-    """Where a file uses `sys.path`."""
+    """Where a file uses `sys.path`, or adds a folder to it by `site`."""
     for node in ast.walk(ast.parse(file.read_text(encoding="utf-8"))):
-        if isinstance(node, ast.Attribute) and node.attr == "path" and isinstance(node.value, ast.Name) and node.value.id == "sys":
+        is_path = isinstance(node, ast.Attribute) and ast.unparse(node) in ("sys.path", "site.addsitedir")
+        is_import = isinstance(node, ast.ImportFrom) and node.module in ("sys", "site")
+        if is_path or is_import and {"path", "addsitedir"} & {it.name for it in node.names}:
             yield f"{file.relative_to(ROOT)}:{node.lineno}"
 
 
+def is_python(file: Path) -> bool:
+    """Whether a file is a module, or a script that begins with the name of Python."""
+    if file.suffix == ".py":
+        return True
+    return file.is_file() and not file.suffix and b"python3" in file.read_bytes()[:40].partition(b"\n")[0]
+
+
 def test_no_path_is_edited() -> None:
-    files = [it for folder in (*FOLDERS, "docs") for it in (ROOT / folder).rglob("*.py")]
-    places = [place for it in files for place in uses_of_the_path(it)]
-    assert len(files) > 50 and {place.partition(":")[0] for place in places} == EDITING
+    """Modules are found beside the script, or by PYTHONPATH."""
+    files = [it for folder in (*FOLDERS, "docs") for it in (ROOT / folder).rglob("*") if is_python(it)]
+    assert {"edits", "run", "kit.py"} < {it.name for it in files}
+    assert [place for it in files for place in uses_of_the_path(it)] == []
 
 
 def test_no_private_names() -> None:

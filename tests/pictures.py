@@ -1,7 +1,7 @@
 #!/usr/bin/env python3
 """Draws the pictures of the pages: docs/pictures/*.svg.
 
-usage: tools/pictures.py [--check]
+usage: tests/pictures.py [--check]
 
 The railroad diagrams are made from the grammar block of the page. Which boxes of a picture a region accepts is worked
 out by `tests/reading.py`, how points are packed by `tests/packing.py`, and distances by `tests/search.py`. With
@@ -21,34 +21,10 @@ PAGE = ROOT / "docs/query-language.md"
 PICTURES = ROOT / "docs/pictures"
 
 sys.dont_write_bytecode = True
-sys.path.insert(0, str(ROOT / "tests"))
 import packing
 import reading
 import search
-
-# Colours that can be seen on a white page and on a dark one. All text but labels is on a filled shape; labels have a colour for each.
-LINE, WORD, NUMBER, RULE = "#8b949e", "#1f6feb", "#8250df", "#57606a"
-# (a label may lie on a line: a rim of the page's colour keeps it legible)
-LABELS = (
-    "<style>.label{fill:#57606a;paint-order:stroke;stroke:#ffffff;stroke-width:3px}"
-    "@media(prefers-color-scheme:dark){.label{fill:#b1bac4;stroke:#0d1117}}</style>"
-)
-REGION, ACCEPTED, REFUSED = "#1f6feb", "#2da44e", "#8b949e"
-MONO = "ui-monospace, SFMono-Regular, Menlo, Consolas, 'DejaVu Sans Mono', monospace"
-SANS = "system-ui, 'Segoe UI', Helvetica, Arial, 'DejaVu Sans', sans-serif"
-
-
-def svg(width, height, title, parts):
-    """A picture of this size."""
-    return "\n".join([
-        f'<svg xmlns="http://www.w3.org/2000/svg" width="{width:g}" height="{height:g}"'
-        f' viewBox="0 0 {width:g} {height:g}" role="img">',
-        f"<title>{escape(title)}</title>",
-        *([LABELS] if any('class="label"' in it for it in parts) else []),
-        *parts,
-        "</svg>\n",
-    ])
-
+from svg import ACCEPTED, LINE, MONO, NUMBER, REFUSED, REGION, RULE, SANS, WORD, svg
 
 # ---- railroad diagrams: each piece has a width, and a height above and below the track that runs through it
 
@@ -671,7 +647,7 @@ def main():
     kept = {file.name: file.read_text(encoding="utf-8") for file in PICTURES.glob("*.svg")}
     stale = [name for name in {**kept, **made} if kept.get(name) != made.get(name)]
     for name in stale:
-        print(f"FAIL docs/pictures/{name} isn't what tools/pictures.py draws")
+        print(f"FAIL docs/pictures/{name} isn't what tests/pictures.py draws")
     print(f"{len(made) - len([name for name in stale if name in made])} passed, {len(stale)} failed")
     return int(bool(stale))
 

@@ -1,0 +1,1 @@
+../tests/svg.py
