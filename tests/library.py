@@ -259,6 +259,7 @@ EXAMPLE = r"^```%s\n((?:(?!```).*\n)*)```\n\nprints\n\n```\n((?:(?!```).*\n)*)``
 
 # What stands around an example of docs/library.md.
 PAGE_PROGRAM = """#include <errno.h>
+#include <math.h>
 #include <rtfilter.h>
 #include <stdio.h>
 #include <string.h>
@@ -402,7 +403,7 @@ class Checks:
             has_own = "rtfilter_session session" in code
             source.write_text(PAGE_PROGRAM % (("", code, "") if has_own else (OPENED, code, "rtfilter_close(session);\n")))
             run("cc", "-std=c11", "-Wall", "-Wextra", "-Werror", f"-I{self.prefix}/include", "-o", room / str(at), source,
-                f"-L{self.prefix}/lib", "-lrtfilter", f"-Wl,-rpath,{self.prefix}/lib", *self.libraries)  # fmt: skip
+                f"-L{self.prefix}/lib", "-lrtfilter", "-lm", f"-Wl,-rpath,{self.prefix}/lib", *self.libraries)  # fmt: skip
             same(run(room / str(at), cwd=room), printed, code)
 
     # - each call
