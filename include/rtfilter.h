@@ -17,7 +17,7 @@
  *   used. A call needs 64 KiB of stack.
  *
  * Pointers
- *   A pointer must be aligned, and valid for the number of items that is given with it; it may be null where that number
+ *   A pointer must be aligned, and valid for the number of items that is given with it; it may be null if that number
  *   is 0. What a call writes to must not overlap anything else that it is given. No call keeps a pointer after it returns,
  *   and none frees memory of its caller.
  *
@@ -126,7 +126,7 @@ int rtfilter_open_bytes(rtfilter_session *out, const void *table, size_t len, co
 int rtfilter_open_file(rtfilter_session *out, const char *name, const rtfilter_settings *settings, rtfilter_fault *fault);
 
 /* Opens a session on n boxes in arrays of n items each. `layers` may be null: all boxes are then on layer 0. The box at index
- * i counts as record i + 1; settings->header is ignored. Faults are looked for in this order: too many boxes; each box by itself,
+ * i counts as record i + 1; settings->header is ignored. Faults are looked for in this order: too many boxes; each box alone,
  * its layer first; repeated ids. Codes and ownership are those of rtfilter_open_bytes(). */
 int rtfilter_open_arrays(rtfilter_session *out, size_t n, const int64_t *ids, const int32_t *min_x, const int32_t *max_x,
                          const int32_t *min_y, const int32_t *max_y, const uint8_t *layers,
