@@ -11,13 +11,13 @@
  *
  * Threads
  *   A session may be in one call at a time. Different sessions may be in calls at the same time, in different threads, also
- *   where they share a table. To hand a session to another thread, order the two threads by a lock, a start or a join. No
- *   function may be called from a signal handler. In the child of a fork of a process with several threads, sessions that were
- *   in no call may be used if the C library is glibc, whose malloc such a child may call; otherwise no function may be called
- *   there. A call needs 64 KiB of stack.
+ *   if they share a table. To hand a session to another thread, order the two threads by a lock, a start or a join. No
+ *   function may be called from a signal handler. In the child of a fork of a process with several threads, no function may be
+ *   called. One exception: if the C library is glibc, whose malloc such a child may call, sessions that were in no call may be
+ *   used. A call needs 64 KiB of stack.
  *
  * Pointers
- *   A pointer must be aligned, and valid for the number of items that is given with it; it may be null where that number
+ *   A pointer must be aligned, and valid for the number of items that is given with it; it may be null if that number
  *   is 0. What a call writes to must not overlap anything else that it is given. No call keeps a pointer after it returns,
  *   and none frees memory of its caller.
  *
@@ -82,11 +82,11 @@ typedef struct rtfilter_session {
 } rtfilter_session;
 #define RTFILTER_CLOSED {NULL}
 
-/* How a table is read and packed. Where a function takes a pointer to settings, null stands for RTFILTER_DEFAULTS. */
+/* How a table is read and packed. Null instead of a pointer to settings means RTFILTER_DEFAULTS. */
 typedef struct rtfilter_settings {
     bool header;          /* skip the first record of a CSV table */
-    uint8_t fanout;       /* the most children of a node of the tree, 2 to 64 */
-    uint32_t max_entries; /* the most boxes, 1 to 16777216 */
+    uint8_t fanout;       /* the maximum number of children of a node of the tree, 2 to 64 */
+    uint32_t max_entries; /* the maximum number of boxes, 1 to 16777216 */
     uint32_t reserved[6]; /* 0 */
 } rtfilter_settings;
 #define RTFILTER_DEFAULTS {false, 16, 16777216, {0, 0, 0, 0, 0, 0}}
@@ -96,7 +96,7 @@ typedef struct rtfilter_settings {
 typedef struct rtfilter_fault {
     uint32_t kind;   /* one of the kinds below */
     uint32_t record; /* the faulty record */
-    uint64_t field;  /* see the kinds; 0 where none is named */
+    uint64_t field;  /* see the kinds; 0 if none is named */
 } rtfilter_fault;
 
 enum {
@@ -126,7 +126,7 @@ int rtfilter_open_bytes(rtfilter_session *out, const void *table, size_t len, co
 int rtfilter_open_file(rtfilter_session *out, const char *name, const rtfilter_settings *settings, rtfilter_fault *fault);
 
 /* Opens a session on n boxes in arrays of n items each. `layers` may be null: all boxes are then on layer 0. The box at index
- * i counts as record i + 1; settings->header is ignored. Faults are looked for in this order: too many boxes; each box by itself,
+ * i counts as record i + 1; settings->header is ignored. Faults are looked for in this order: too many boxes; each box alone,
  * its layer first; repeated ids. Codes and ownership are those of rtfilter_open_bytes(). */
 int rtfilter_open_arrays(rtfilter_session *out, size_t n, const int64_t *ids, const int32_t *min_x, const int32_t *max_x,
                          const int32_t *min_y, const int32_t *max_y, const uint8_t *layers,
@@ -161,7 +161,7 @@ typedef struct rtfilter_info {
     uint32_t boxes;
     uint32_t levels;                    /* the number of levels of the tree, 1 to 25; level 0 is that of the boxes */
     uint32_t level_sizes[25];           /* the number of boxes or nodes of each level, from level 0; the rest is 0 */
-    int32_t min_x, max_x, min_y, max_y; /* the least box around all boxes; all 0 if there are none */
+    int32_t min_x, max_x, min_y, max_y; /* the smallest box around all boxes; all 0 if there are none */
     uint32_t reserved[9];               /* 0 */
 } rtfilter_info;
 
@@ -173,7 +173,7 @@ int rtfilter_info_of(rtfilter_session *session, rtfilter_info *info);
 /* Answers query lines exactly as the program rtfilter does, byte for byte. `lines` has `len` bytes of lines, each ended by a
  * line feed, which the last may lack. Lines are numbered from 1 in each call.
  *
- * The session keeps the reply, in place of the previous one. The call stores the length of the reply in *reply_len, and its
+ * The session keeps the reply, instead of the previous one. The call stores the length of the reply in *reply_len, and its
  * first bytes in `buffer`, as many as fit into `size` bytes; no null byte is added. If the reply is longer, the rest
  * is read by rtfilter_reply(), without another search. Calls other than rtfilter_ask() leave the reply as it is.
  *
@@ -182,7 +182,7 @@ int rtfilter_info_of(rtfilter_session *session, rtfilter_info *info);
 int rtfilter_ask(rtfilter_session *session, const char *lines, size_t len, char *buffer, size_t size, size_t *reply_len);
 
 /* Copies bytes of the kept reply, from offset `from` on, as many as fit into `size` bytes, and stores their number in *copied:
- * 0 at or behind the end of the reply, or if there is none. Codes: RTFILTER_OK, RTFILTER_MISUSE. */
+ * 0 at or after the end of the reply, or if there is none. Codes: RTFILTER_OK, RTFILTER_MISUSE. */
 int rtfilter_reply(rtfilter_session *session, size_t from, char *buffer, size_t size, size_t *copied);
 
 /* Frees the kept reply, which is then empty. Otherwise its memory is kept for the next one. Codes: RTFILTER_OK,
@@ -202,7 +202,7 @@ enum { /* regions: a box is accepted if .. */
 
 enum { /* orders: answers come by score, the lowest first, and at equal scores by id */
     RTFILTER_BY_ID = 0,   /* all scores are 0 */
-    RTFILTER_NEAR = 1,    /* the square of the distance from (near_x, near_y) */
+    RTFILTER_NEAR = 1,    /* the squared distance from (near_x, near_y) */
     RTFILTER_SMALLEST = 2 /* the area */
 };
 
@@ -212,9 +212,10 @@ enum { /* orders: answers come by score, the lowest first, and at equal scores b
 /* A query. Members that neither its region nor its order uses are ignored. Begin with a helper below: a query of zeros has no
  * layer, and is invalid.
  *
- * A query is invalid if its region or its order is none of those above; if a minimum of its box is above the maximum; if its
- * vertices aren't 3 to 16, aren't all among those of the call, or aren't those of a strictly convex polygon, in order round it,
- * in either direction; if it has no layer; or if its reserved member isn't 0. */
+ * A query is invalid if its region or its order is none of those above, if a minimum of its box is above the maximum, if it has
+ * no layer, or if its reserved member isn't 0. A polygon is invalid if it has fewer than 3 or more than 16 vertices, if they
+ * aren't all among those of the call, or if they aren't the vertices of a strictly convex polygon, in order around it, in either
+ * direction. */
 typedef struct rtfilter_query {
     uint32_t region;
     uint32_t order;
@@ -225,14 +226,14 @@ typedef struct rtfilter_query {
     uint32_t first_vertex, vertices;    /* a polygon: the index of its first vertex in the call, and how many it has */
     uint32_t reserved;                  /* 0 */
     uint64_t layers;                    /* bit k accepts the boxes on layer k */
-    uint64_t limit;                     /* the most answers */
+    uint64_t limit;                     /* the maximum number of answers */
 } rtfilter_query;
 
 typedef struct rtfilter_point {
     int32_t x, y;
 } rtfilter_point;
 
-/* A score: high * 2^64 + low. The greatest score has 65 bits, so that high is 0 or 1. */
+/* A score: high * 2^64 + low. The greatest score has 65 bits, so high is 0 or 1. */
 typedef struct rtfilter_score {
     uint64_t low, high;
 } rtfilter_score;
@@ -253,9 +254,9 @@ const char *rtfilter_query_message(const rtfilter_queries *queries, size_t index
  * items. */
 typedef struct rtfilter_answers {
     int64_t *ids;
-    rtfilter_score *scores; /* null if scores aren't wanted */
+    rtfilter_score *scores; /* null if scores aren't needed */
     size_t capacity;
-    size_t *ends;           /* an item for each query: the index behind its last answer; null is allowed for one query */
+    size_t *ends;           /* an item for each query: the index after its last answer; null is allowed for one query */
     size_t done;            /* out: how many queries are answered completely */
     size_t found;           /* out: how many answers are in the arrays */
 } rtfilter_answers;
@@ -263,20 +264,20 @@ typedef struct rtfilter_answers {
 /* Finds the answers of each query. Of all answers of the call, the first `skip` are left out.
  *
  * RTFILTER_OK: all queries are answered.
- * RTFILTER_FULL: the arrays are full. The first `done` queries are answered completely, and the answers behind theirs are the
+ * RTFILTER_FULL: the arrays are full. The first `done` queries are answered completely, and the answers after theirs are the
  *   first ones of the next query, which has more. rtfilter_continue() sets up the next call.
- * RTFILTER_BAD_QUERY: the query at index `done` is invalid, and those before it are answered. To go on behind it, call again with
+ * RTFILTER_BAD_QUERY: the query at index `done` is invalid, and those before it are answered. To go on after it, call again with
  *   the queries from index done + 1 on, and a `skip` of 0.
  *
- * No more is searched than the arrays have room for: a call opens no more nodes than one whose queries are limited to `skip`,
- * the room that is left, and one answer more.
+ * The capacity bounds the work: a query opens no more nodes than one that is limited to `skip`, plus the capacity that is left,
+ * plus one.
  *
  * In these three cases `done`, `found`, the first `done` items of `ends`, and the first `found` items of `ids` and `scores` are
- * set; what further items hold is unspecified. RTFILTER_NO_MEMORY sets `done` and `found` to 0. Further code:
+ * set; further items are unspecified. RTFILTER_NO_MEMORY sets `done` and `found` to 0. Further code:
  * RTFILTER_MISUSE. */
 int rtfilter_find(rtfilter_session *session, const rtfilter_queries *queries, size_t skip, rtfilter_answers *answers);
 
-/* Counts the boxes that each query's region and layers accept, whatever its limit. counts[i] is the number of query i.
+/* Counts the boxes that the region and layers of each query accept, whatever its limit. counts[i] is the count of query i.
  *
  * RTFILTER_OK sets *done to the number of queries. RTFILTER_BAD_QUERY says that the query at index *done is invalid, and those
  * before it are counted. `done` may be null. RTFILTER_NO_MEMORY sets it to 0. Further code: RTFILTER_MISUSE. */
@@ -286,7 +287,7 @@ int rtfilter_count(rtfilter_session *session, const rtfilter_queries *queries, u
 int rtfilter_cost_of_find(rtfilter_session *session, const rtfilter_queries *queries, uint64_t *opened, size_t *done);
 int rtfilter_cost_of_count(rtfilter_session *session, const rtfilter_queries *queries, uint64_t *opened, size_t *done);
 
-/* ---- Helpers. Each makes a query on all layers, without a limit but for rtfilter_nearest(). */
+/* ---- Helpers. Each makes a query on all layers; all but rtfilter_nearest() make one without a limit. */
 
 /* All boxes, by id. */
 RTFILTER_INLINE rtfilter_query rtfilter_all(void)
@@ -357,9 +358,9 @@ RTFILTER_INLINE rtfilter_query rtfilter_nearest(int32_t x, int32_t y, uint64_t k
     return query;
 }
 
-/* Sets `queries` and *skip up for the call of rtfilter_find() that continues where one returned RTFILTER_FULL; its answers are
- * then taken from the arrays, or have been. `queries`, *skip and `answers` are those of that call. Where it returned RTFILTER_OK,
- * no queries are left. */
+/* Sets `queries` and *skip up for the next call of rtfilter_find(), after one that returned RTFILTER_FULL. Use the answers in the
+ * arrays before the next call. `queries`, *skip and `answers` are those of the last call. If it returned RTFILTER_OK, no queries
+ * are left. */
 RTFILTER_INLINE void rtfilter_continue(rtfilter_queries *queries, size_t *skip, const rtfilter_answers *answers)
 {
     const size_t end = answers->done && answers->ends ? answers->ends[answers->done - 1] : 0;

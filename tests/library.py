@@ -259,6 +259,7 @@ EXAMPLE = r"^```%s\n((?:(?!```).*\n)*)```\n\nprints\n\n```\n((?:(?!```).*\n)*)``
 
 # What stands around an example of docs/library.md.
 PAGE_PROGRAM = """#include <errno.h>
+#include <math.h>
 #include <rtfilter.h>
 #include <stdio.h>
 #include <string.h>
@@ -389,6 +390,8 @@ class Checks:
             said = run(self.folder / f"example-{name}", env={"LD_LIBRARY_PATH": f"{self.prefix}/lib"} if name == "shared" else {})
             same(said, "box 1\nbox 2\n")
             same(f"$ ./boxes\n{said}```\n" in page, True, "docs/library.md shows what the example prints")
+        (typed,) = re.findall(r"^```\n\$ cc .*?^```$", (ROOT / "docs/quick-start.md").read_text(encoding="utf-8"), re.MULTILINE | re.DOTALL)
+        same(f"{typed}\n" in page, True, "docs/quick-start.md types the same")
 
     def check_page(self):
         """The examples of docs/library.md print what it shows."""
@@ -402,7 +405,7 @@ class Checks:
             has_own = "rtfilter_session session" in code
             source.write_text(PAGE_PROGRAM % (("", code, "") if has_own else (OPENED, code, "rtfilter_close(session);\n")))
             run("cc", "-std=c11", "-Wall", "-Wextra", "-Werror", f"-I{self.prefix}/include", "-o", room / str(at), source,
-                f"-L{self.prefix}/lib", "-lrtfilter", f"-Wl,-rpath,{self.prefix}/lib", *self.libraries)  # fmt: skip
+                f"-L{self.prefix}/lib", "-lrtfilter", "-lm", f"-Wl,-rpath,{self.prefix}/lib", *self.libraries)  # fmt: skip
             same(run(room / str(at), cwd=room), printed, code)
 
     # - each call
@@ -447,12 +450,12 @@ class Checks:
             wrapper = self.built("wrapper.cpp", *flags, compiler="c++", standard="c++17")
             run(wrapper, self.folder / "boxes.csv")
         program, printed = self.page("include/README.md", "cpp")
-        (self.folder / "page.cpp").write_text(program)
         wants("pkg-config")
-        words = {**os.environ, "PKG_CONFIG_PATH": f"{self.prefix}/lib/pkgconfig", "LD_LIBRARY_PATH": f"{self.prefix}/lib"}
-        flags = run("pkg-config", "--cflags", "--libs", "rtfilter", env=words).split()
-        run("c++", "-std=c++17", *WARNINGS, "-o", self.folder / "page-cpp", self.folder / "page.cpp", *flags)
-        same(run(self.folder / "page-cpp", cwd=self.folder, env=words), printed)
+        room, words = self.room("page-cpp"), {**os.environ, "PKG_CONFIG_PATH": f"{self.prefix}/lib/pkgconfig", "LD_LIBRARY_PATH": f"{self.prefix}/lib"}
+        (room / "boxes.cpp").write_text(program)
+        (typed,) = re.findall(r"^\$ (c\+\+ .*)$", (ROOT / "include/README.md").read_text(encoding="utf-8"), re.MULTILINE)
+        run("sh", "-c", f"{typed} {' '.join([*WARNINGS, *self.libraries])}", cwd=room, env=words)
+        same(run(room / "boxes", cwd=room, env=words), printed)
 
     # - what is refused
 

@@ -9,9 +9,11 @@ tests of that tool. A row of a table with the columns `line`
 and `reply` is a run with that line alone over boxes.csv, or over the table that the head of the column names, perhaps with
 options in front of it. The logic that pages say all is proved with is that of `rt version`, where `rt` is there. Each link of a
 page leads to a file of the repository, and to a heading of it; each page of docs/ is reached from README.md by links; each
-question of questions.md has an answer under a heading that is there. The last line is `N passed, M failed`.
+question of questions.md has an answer under a heading that is there; each fenced block has a row of blocks.md, which names the
+test that runs it or says why none does. The last line is `N passed, M failed`.
 """
 
+import fnmatch
 import os
 import re
 import shutil
@@ -126,6 +128,33 @@ def unanswered(pages):
             yield f"{question}: {place}"
 
 
+def blocks(text):
+    """The fenced blocks of a page but for outputs after "prints": of each its language and its first line."""
+    for before, language, first in re.findall(r"(?:^(.*)\n\n|^)^```(.*)\n(.*)\n(?:(?!```).*\n)*```$", text, re.MULTILINE):
+        if before != "prints" or language:
+            yield language, first
+
+
+def unnamed_blocks(pages):
+    """The blocks that no row of blocks.md has, the rows that no block has, and those whose test isn't there."""
+    by_language, by_line = (
+        re.findall(r"^\| (\S+) \| `(.*)` \| (.*) \|$", part, re.MULTILINE) for part in pages[ROOT / "tests/blocks.md"].split("\n## ")[1:]
+    )
+    unused = {*by_language, *by_line}
+    for page, text in pages.items():
+        name = str(page.relative_to(ROOT))
+        for language, first in blocks(text):
+            found = {row for row in by_language if fnmatch.fnmatchcase(name, row[0]) and fnmatch.fnmatchcase(language, row[1])}
+            found |= {row for row in by_line if (name, first.replace("|", "\\|")) == row[:2]}
+            unused -= found
+            if not found:
+                yield f"{name}: {language} {first}: no row of tests/blocks.md"
+    yield from (f"{name}: {block}: no such block" for name, block, _ in unused)
+    for name, block, test in [*by_language, *by_line]:
+        if not (ROOT / test).is_file() and ((name, block, test) in by_language or not test.startswith("not run")):
+            yield f"{name}: {block}: no such test: {test}"
+
+
 def logics(text):
     """The logics of the toolchain that a text names."""
     return set(re.findall(r"\blogic ([0-9a-f]{16})\b", text))
@@ -150,7 +179,10 @@ def main():
         (path / "rtfilter").symlink_to(Path(sys.argv[1]).resolve())
         outcomes = ((page, command, shown, printed(command, folder, path)) for page, command, shown in examples())
         pages = all_pages()
-        checks = ("links that lead nowhere", broken_links), ("pages that no link leads to", unreached), ("questions", unanswered)
+        checks = (
+            ("links that lead nowhere", broken_links), ("pages that no link leads to", unreached), ("questions", unanswered),
+            ("blocks", unnamed_blocks),
+        )  # fmt: skip
         by_looking = ((ROOT / "README.md", words, [], [*check(pages)]) for words, check in checks)
         for page, command, shown, found in [*outcomes, *names_of_the_logic(), *by_looking]:
             if found == shown:

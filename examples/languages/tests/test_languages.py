@@ -1,6 +1,7 @@
 """The clients in other languages print what the program says."""
 
 import os
+import re
 import shutil
 import socket
 import subprocess
@@ -18,6 +19,7 @@ PROGRAM = os.environ["RTFILTER_PROGRAM"]
 LONG = 120  # seconds that a virtual machine may take on a busy machine
 
 LINES = ["find window 0 10 0 10", "nearest 1 -2147483648 -2147483648", "count all", "levels", "find what"]
+TYPED = re.compile(r"^```\n\$ ((?:service/serve|\./ask).*)\n((?:.*\n)*?)```$", re.MULTILINE)
 COMMANDS = {
     "ask.js": ("node", ["node", str(HERE / "ask.js")]),
     "Ask.java": ("javac", ["java", str(HERE / "Ask.java")]),
@@ -31,12 +33,12 @@ class Languages(unittest.TestCase):
         self.table = Path(self.folder, "boxes.csv")
         self.table.write_text("1,0,10,0,10\n2,5,15,5,15\n9223372036854775807,2147483647,2147483647,2147483647,2147483647\n")
 
-    def service(self) -> str:
-        """Where a service of the table listens, until the test ends."""
+    def service(self, table: Path) -> str:
+        """Where a service of a table listens, until the test ends."""
         if library_of(PROGRAM) is None:
             self.skipTest("no C compiler, and so no library of the service")
         path = str(Path(self.folder, "boxes.socket"))
-        words = [sys.executable, "-B", str(ROOT / "service/serve.py"), "--program", PROGRAM, "--unix", path, str(self.table)]
+        words = [sys.executable, "-B", str(ROOT / "service/serve.py"), "--program", PROGRAM, "--unix", path, str(table)]
         service = self.enterContext(subprocess.Popen(words, stderr=subprocess.PIPE, text=True))
         assert service.stderr
         draining = threading.Thread(target=service.stderr.read)
@@ -64,11 +66,21 @@ class Languages(unittest.TestCase):
         return subprocess.run([PROGRAM, self.table], input=text, capture_output=True, text=True).stdout
 
     def test_each_prints_what_the_program_says(self) -> None:
-        path = self.service()
+        path = self.service(self.table)
         for name in COMMANDS:
             with self.subTest(name):
                 self.need(name)
                 self.assertEqual(self.said(name, path, LINES).stdout, self.program_says(LINES))
+
+    def test_page(self) -> None:
+        """The commands of the page, over sockets of their own, print what it shows."""
+        self.need("ask.sh")
+        (serve, _), (ask, shown) = TYPED.findall((HERE / "README.md").read_text(encoding="utf-8"))
+        named = [word for word in serve.split() if word.startswith("/tmp/")]
+        self.assertEqual(len(named), 1)
+        path = self.service(ROOT / serve.split()[-1])
+        done = subprocess.run(ask.replace(named[0], path), shell=True, cwd=HERE, capture_output=True, text=True, timeout=LONG)
+        self.assertEqual(done.stdout, shown)
 
     def test_each_tells_that_a_connection_has_ended(self) -> None:
         path = str(Path(self.folder, "short.socket"))
