@@ -405,11 +405,11 @@ def main():
             continue
         first, sums = None, set()
         for case in cases:
-            taken, told = run_alone(name, case, args.boxes)
+            taken, kept = run_alone(name, case, args.boxes)
             if taken is None:
-                print(f"| {name} | {case} | not had: {told} | |", flush=True)
+                print(f"| {name} | {case} | not had: {kept} | |", flush=True)
                 continue
-            sums |= {told} - {None}
+            sums |= {kept} - {None}
             first = first or taken
             times = "" if isinstance(taken, list) or taken is first else f"{taken / first:.2f}"
             print(f"| {name} | {case} | {shown(taken)} | {times} |", flush=True)

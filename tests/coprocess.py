@@ -54,9 +54,9 @@ def same(name, found, wanted):
 @functools.lru_cache(None)
 def reply(line):
     """The reply to a line, with a word in the place of its number, and whether the line is faulty."""
-    told, bad = reading.reply(BOXES, FANOUT, 0, line)
-    told[-1:] = [last.replace(b" 0", b" NUMBER", 1) for last in told[-1:]]
-    return b"".join(it + b"\n" for it in told), bad
+    lines, bad = reading.reply(BOXES, FANOUT, 0, line)
+    lines[-1:] = [last.replace(b" 0", b" NUMBER", 1) for last in lines[-1:]]
+    return b"".join(it + b"\n" for it in lines), bad
 
 
 class Held:
@@ -88,9 +88,9 @@ class Held:
     def wanted(self, line):
         """The reply to the next line."""
         self.lines += 1
-        told, bad = reply(line)
+        answer, bad = reply(line)
         self.bad |= bad
-        return told.replace(b"NUMBER", b"%d" % self.lines)
+        return answer.replace(b"NUMBER", b"%d" % self.lines)
 
     def comes(self, seconds):
         return bool(select.select([self.process.stdout], [], [], seconds)[0])
@@ -123,8 +123,8 @@ class Held:
             found = self.process.wait(TOO_LONG)
         except subprocess.TimeoutExpired:
             found = "no end"
-        told = self.process.stdout.read() if self.process.stdout else b""
-        same("the end", (found, told, self.process.stderr.read()), (status, output, error))
+        written = self.process.stdout.read() if self.process.stdout else b""
+        same("the end", (found, written, self.process.stderr.read()), (status, output, error))
 
     def close(self, output=b""):
         """Closes the input, after which it ends with the status of its lines."""
@@ -213,7 +213,7 @@ def a_line_that_does_not_end(start):
 
 def closed_input(start):
     """Whatever stands behind the last line feed is answered at the end."""
-    for asked, behind, status, told in (
+    for asked, behind, status, output in (
         (b"count all", b"", 0, b""),
         (b"x", b"", 1, b""),
         (b"count all", b"count all", 0, b"ok 2 %d\n" % COUNT),
@@ -226,7 +226,7 @@ def closed_input(start):
             held.write(behind)
             held.expect_nothing()
             held.process.stdin.close()
-            held.expect_end(status, told, b"")
+            held.expect_end(status, output, b"")
     with start() as held:
         held.close()
 

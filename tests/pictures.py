@@ -477,11 +477,11 @@ def searched():
         name = Stop(f"entry {number}", ACCEPTED, 14) if is_entry else Stop(f"node {number}", RULE, 3)
         parts += [*name.draw(x, y), scene.label(65.5, 30 - 4 * row, score)]
     parts.append(scene.label(58, 34, "waiting, with score"))
-    title = f"Nodes {told(opened)} are open, entries {told(given)} were given, and the first that waits is taken next"
+    title = f"Nodes {in_words(opened)} are open, entries {in_words(given)} were given, and the first that waits is taken next"
     return scene.picture(title, parts)
 
 
-def told(numbers):
+def in_words(numbers):
     """Some numbers, in words."""
     *front, last = map(str, numbers)
     return f"{', '.join(front)} and {last}" if front else last

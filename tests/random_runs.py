@@ -452,8 +452,8 @@ def costs_differ(program, folder, chance, met):
     lines = [line for _ in range(5) for line in some_costs(chance, boxes)]
     queries = b"".join(line + b"\n" for line in lines)
     wanted = reading.expected(table, queries, fanout=fanout)
-    for line, told in zip(lines, re.findall(rb"^ok \d+ (\d+)$", wanted[1], re.MULTILINE), strict=True):
-        met.update(cost_kinds(boxes, fanout, line, int(told)))
+    for line, cost in zip(lines, re.findall(rb"^ok \d+ (\d+)$", wanted[1], re.MULTILINE), strict=True):
+        met.update(cost_kinds(boxes, fanout, line, int(cost)))
     return difference(program, folder, table, queries, False, MOST_ENTRIES, fanout, wanted)
 
 
@@ -481,18 +481,18 @@ def difference(program, folder, table, queries, header, most, fanout, wanted):
 
 def kinds(at, line, output):
     """What a line is a case of: its fault, or its verb, region, order and limit; with `on` or `cost` it is told too."""
-    told = re.search(rb"^(ok|error) %d ([^ \n]*)" % at, output, re.MULTILINE)
-    if told is None:
+    ending = re.search(rb"^(ok|error) %d ([^ \n]*)" % at, output, re.MULTILINE)
+    if ending is None:
         return ["skipped"]
     words = [word.decode(errors="replace") for word in reading.Words(line).left]
-    if told[1] == b"error":
-        code = told[2].decode()
+    if ending[1] == b"error":
+        code = ending[2].decode()
         return ["error", code, *(f"{code} of {word}" for word in ("on", "cost") if word in words)]
     kinds = {word for word in words if word.isalpha()}
     return ["ok", *kinds, *(f"{kind} and {word}" for kind in kinds for word in {"on", "cost"} & kinds)]
 
 
-def cost_kinds(boxes, fanout, line, told):
+def cost_kinds(boxes, fanout, line, cost):
     """What a line that asks for a cost is a case of: its limit beside the number of answers, the nodes beside all."""
     asked = reading.question(reading.Words(line.removeprefix(b"cost")))
     scores = [score for score, _ in reading.answers(boxes, asked.region.accepts, asked.score, None)]
@@ -503,8 +503,8 @@ def cost_kinds(boxes, fanout, line, told):
         yield "a cost with a limit at a tie" if scores[limit - 1] == scores[limit] else "a cost with a limit below"
     else:
         yield "a cost with a limit at the end" if limit == len(scores) else "a cost with a limit beyond"
-    yield "a cost of all nodes" if told == nodes else "a cost of some nodes" if told > 1 else f"a cost of {told}"
-    if asked.verb == b"count" and told < reading.opened(boxes, fanout, asked._replace(verb=b"find")):
+    yield "a cost of all nodes" if cost == nodes else "a cost of some nodes" if cost > 1 else f"a cost of {cost}"
+    if asked.verb == b"count" and cost < reading.opened(boxes, fanout, asked._replace(verb=b"find")):
         yield f"a node counted whole of {reading.Words(line).left[2].decode()}"
 
 

@@ -393,8 +393,8 @@ def reply(table, fanout, at, line):
         words = Words(line)
         if not words.left or words.left[0].startswith(b"#"):
             return [], False
-        lines, told = query_reply(table, fanout, words)
-        return [*lines, b"ok %d %d" % (at, told)], False
+        lines, count = query_reply(table, fanout, words)
+        return [*lines, b"ok %d %d" % (at, count)], False
     except Fault as fault:
         code = str(fault)
         return [f"error {at} {code} {FAULTS[code]}".encode()], True

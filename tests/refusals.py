@@ -203,11 +203,11 @@ def long_answers(refuser, program):
     for name, error in (("writes", errno.EIO), ("writes that are interrupted", errno.EINTR)):
         found, whole = refuser.each([program, "many.csv"], Refusal("write", error, ONCE), asked)
         wrong = []
-        for at, (status, output, told) in enumerate([*found, whole], 1):
+        for at, (status, output, errors) in enumerate([*found, whole], 1):
             is_lost = at <= len(found) and error == errno.EIO
-            is_front = answered[1].startswith(output) and (status, told) == (5, NOT_WRITTEN)
-            if not (is_front if is_lost else (status, output, told) == answered):
-                wrong.append(f"run {at}: {status}, {len(output)} bytes, {told}")
+            is_front = answered[1].startswith(output) and (status, errors) == (5, NOT_WRITTEN)
+            if not (is_front if is_lost else (status, output, errors) == answered):
+                wrong.append(f"run {at}: {status}, {len(output)} bytes, {errors}")
         yield f"{name}, long answers", len(found), wrong
 
 

@@ -182,21 +182,21 @@ def size(item):
 
 def count(root, state):
     """How many are accepted, the nodes opened and the checks made."""
-    told = [0, 0, 0]
+    counts = [0, 0, 0]
 
     def open_node(node):
-        told[1] += 1
+        counts[1] += 1
         for child in node.children:
-            told[2] += 1
+            counts[2] += 1
             within = state(child)
             if within == FULLY or (within == PARTLY and child.level == 0):
-                told[0] += size(child)
+                counts[0] += size(child)
             elif within == PARTLY:
                 open_node(child)
 
     if root:
         open_node(root)
-    return told
+    return counts
 
 
 class Digest:

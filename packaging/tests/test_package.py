@@ -245,8 +245,8 @@ class Packages(unittest.TestCase):
 
     def test_by_lintian(self) -> None:
         wants(self, "lintian")
-        told = run("lintian", "--allow-root", "--fail-on", "error", *self.packages.values()).splitlines()
-        self.assertEqual([line for line in told if not any(tag in line for tag in FINE)], [])
+        report = run("lintian", "--allow-root", "--fail-on", "error", *self.packages.values()).splitlines()
+        self.assertEqual([line for line in report if not any(tag in line for tag in FINE)], [])
 
     def test_installed_and_removed(self) -> None:
         """In a folder that stands for the system, which has the library in a version that is old enough, or not."""
@@ -267,8 +267,8 @@ class Packages(unittest.TestCase):
                     continue
                 names = "rtfilter", "librtfilter0", "python3-rtfilter", "rtfilter-tools"
                 run(*dpkg, "--install", *(self.packages[it] for it in names))
-                told = run(Path(system, "usr/bin/rtfilter"), DATA / "boxes.csv", DATA / "queries.txt")
-                self.assertEqual(told, (DATA / "answers.txt").read_text())
+                output = run(Path(system, "usr/bin/rtfilter"), DATA / "boxes.csv", DATA / "queries.txt")
+                self.assertEqual(output, (DATA / "answers.txt").read_text())
                 asked = f"import rtfilter; print(rtfilter.Rtfilter('{DATA / 'boxes.csv'}').count(rtfilter.All()))"
                 words = {"PYTHONPATH": f"{system}/usr/lib/python3/dist-packages", "PATH": f"{system}/usr/bin:{path}", "LD_LIBRARY_PATH": f"{system}/{LIBRARIES}"}
                 self.assertEqual(run("/usr/bin/python3", "-B", "-c", asked, env=words), "5\n")

@@ -95,17 +95,17 @@ class Wheel(unittest.TestCase):
         binaries = self.environment("--system-site-packages")
         words = {"RTFILTER_ARCHIVE": LIBRARY, "RTFILTER_INCLUDE": str(ROOT / "include")}
         self.pip(binaries, "install", "--no-index", "--no-build-isolation", copy, **words)
-        told = run(binaries / "python", "-c", ASKED, cwd=DATA, env={"PATH": "/nonexistent", "PYTHONDONTWRITEBYTECODE": "1"})
-        self.assertIn("[1, 2]", told)
+        output = run(binaries / "python", "-c", ASKED, cwd=DATA, env={"PATH": "/nonexistent", "PYTHONDONTWRITEBYTECODE": "1"})
+        self.assertIn("[1, 2]", output)
 
     def test_what_other_systems_lack(self) -> None:
         source = self.folder / "newer.c"
         source.write_text("#include <stdlib.h>\nunsigned newer(void) { return arc4random(); }\n")
         run("cc", "-shared", "-fPIC", "-o", self.folder / "newer.so", source)
-        for file, told in ((self.folder / "newer.so", "wants GLIBC_2.36"), ("/bin/bash", "wants libtinfo.so.6")):
+        for file, reason in ((self.folder / "newer.so", "wants GLIBC_2.36"), ("/bin/bash", "wants libtinfo.so.6")):
             words = [sys.executable, MAKE, PROGRAM, str(file), str(LIBRARY), self.folder]
             done = subprocess.run([*map(str, words)], capture_output=True, text=True)
-            self.assertEqual((done.returncode, done.stderr.splitlines()[-1]), (1, f"make_wheel.py: {file} {told}"))
+            self.assertEqual((done.returncode, done.stderr.splitlines()[-1]), (1, f"make_wheel.py: {file} {reason}"))
 
 
 if __name__ == "__main__":

@@ -16,7 +16,7 @@ from pathlib import Path
 
 from served import (
     BOXES, PROGRAM, SERVICE, SYSTEM_PYTHON, Case, Served, all_of, answers, found, read_lines, send, some_pieces,
-    some_queries, table_of, talk, told_by_program, until,
+    some_queries, table_of, talk, output_of_program, until,
 )  # fmt: skip
 
 TOO_LONG_A_LINE = b"error %d Q1 line too long\n"
@@ -59,7 +59,7 @@ class SameAsProgram(Case):
         queries = some_queries(chance, chance.choice([0, 1, 64, 65, 400]))
         asker = socket.create_connection(service.tcp) if seed % 2 else service.connect()
         found = talk(asker, some_pieces(chance, queries))
-        if found != told_by_program(BOXES, queries):
+        if found != output_of_program(BOXES, queries):
             self.different.append(seed)
 
     def test_random_lines(self) -> None:
@@ -85,7 +85,7 @@ class SameAsProgram(Case):
             until(lambda: len(service.connections) == 64, "a process for each")
             for at, (asker, text) in enumerate(zip(askers, texts)):
                 found = talk(asker, [text[at * 10:]])
-                self.assertEqual(found, told_by_program(BOXES, text))
+                self.assertEqual(found, output_of_program(BOXES, text))
 
     def test_options(self) -> None:
         service = self.served(BOXES, "--header", "--fanout", "2", "--max-entries", "4")
@@ -103,8 +103,8 @@ class SameAsProgram(Case):
               for end in (b"", b"\r", b"\n", b"\r\n")),
         ):
             with self.subTest(queries[:20], length=len(queries)):
-                self.assertEqual(service.ask(queries + b"\n" + line), told_by_program(BOXES, queries + b"\n" + line))
-                self.assertEqual(service.ask(queries), told_by_program(BOXES, queries))
+                self.assertEqual(service.ask(queries + b"\n" + line), output_of_program(BOXES, queries + b"\n" + line))
+                self.assertEqual(service.ask(queries), output_of_program(BOXES, queries))
 
     def test_each_line_is_answered_at_once(self) -> None:
         """Who asks writes the next line when it has the reply to the one before."""
@@ -119,7 +119,7 @@ class SameAsProgram(Case):
         service = self.served()
         queries = b"find all\n\n# none\ncount all\r\nx\nnearest 2 12 12"
         found = talk(service.connect(), (queries[at:at + 1] for at in range(len(queries))))
-        self.assertEqual(found, told_by_program(BOXES, queries))
+        self.assertEqual(found, output_of_program(BOXES, queries))
 
     def test_the_log(self) -> None:
         """A line for each connection's end: who it was, with which status, after how long."""
@@ -140,7 +140,7 @@ class SameAsProgram(Case):
 class Askers(Case):
     def test_a_reader_that_leaves_in_mid_answer(self) -> None:
         service = self.served(table_of(self.folder, "many", 0, 50_000))
-        wanted = told_by_program(Path(self.folder, "many"), b"find all first 1000\ncount all\n" * 20)
+        wanted = output_of_program(Path(self.folder, "many"), b"find all first 1000\ncount all\n" * 20)
         found: list[bytes] = []
         other = threading.Thread(target=lambda: found.append(service.ask(b"find all first 1000\ncount all\n" * 20)))
         with all_of([other]):

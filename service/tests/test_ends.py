@@ -258,7 +258,7 @@ class Ends(Case):
         until(lambda: len(service.programs) == 1, "the end of the old program")
 
     def test_a_table_that_does_not_load(self) -> None:
-        for text, status, told in (
+        for text, status, message in (
             ("1,1,0,0,0\n", 3, "rtfilter: table record 1: minimum above maximum in x"),
             (None, 3, "rtfilter: cannot open table"),
             ("1,0,1,0,1\n", 2, "rtfilter: bad command line"),
@@ -270,7 +270,7 @@ class Ends(Case):
             words = ["--fanout", "1"] if status == 2 else []
             service = self.served(table, *words)
             self.assertEqual(service.process.wait(10), status)
-            self.assertEqual(service.log, f"listening on {service.path}\n{told}\n")
+            self.assertEqual(service.log, f"listening on {service.path}\n{message}\n")
             self.assertFalse(os.path.exists(service.path))
 
     def test_a_first_load_that_takes_too_long(self) -> None:

@@ -141,8 +141,8 @@ class Health(Case):
             stream = {**os.environ, "JOURNAL_STREAM": f"{status.st_dev}:{status.st_ino}"}
             words = ["--unix", f"{self.folder}/other", "--program", PROGRAM, "/no/such/table"]
             subprocess.run([sys.executable, "-B", SERVICE, *words], stderr=journal, env=stream, timeout=20)
-        told = Path(self.folder, "journal").read_text().splitlines()
-        self.assertEqual(told, [f"listening on {self.folder}/other", "rtfilter: cannot open table"])
+        logged = Path(self.folder, "journal").read_text().splitlines()
+        self.assertEqual(logged, [f"listening on {self.folder}/other", "rtfilter: cannot open table"])
 
     def test_requests(self) -> None:
         service = self.served(BOXES, "--health", "0")

@@ -9,7 +9,7 @@ from pathlib import Path
 from urllib.parse import quote
 
 import random_runs
-from tiles_support import BOXES, Mapped, Server, told
+from tiles_support import BOXES, Mapped, Server, replies_of
 
 TEXT = "text/plain; charset=utf-8"
 
@@ -98,7 +98,7 @@ class Refusals(Mapped):
             if reply.status != 200:
                 self.assertEqual(reply.status, 400)
                 continue
-            found, wanted = json.loads(body), told(self.table, [line])
+            found, wanted = json.loads(body), replies_of(self.table, [line])
             if found.get("fault", "").startswith(("here ", "a line ")):
                 refused += 1
                 continue
@@ -144,7 +144,7 @@ class Tables(unittest.TestCase):
     def test_names_that_are_none(self) -> None:
         room = Path(self.enterContext(tempfile.TemporaryDirectory()))
         (room / "boxes.csv").write_text("1,0,1,0,1,3\n2,0,1,0,1,4\n")
-        for text, told in (
+        for text, message in (
             ("3,x\nid,name\n", "names.csv, line 2: not a number and a name\n"),
             ("3,x\n4\n", "names.csv, line 2: not a number and a name\n"),
             ("3,x\n4,x\n", "rtfilter-tiles: two layers have the same name\n"),
@@ -153,7 +153,7 @@ class Tables(unittest.TestCase):
             (room / "names.csv").write_text(text)
             with self.assertRaises(RuntimeError) as raised:
                 Server(room / "boxes.csv", "--layers", str(room / "names.csv"))
-            self.assertTrue(str(raised.exception).endswith(told), raised.exception)
+            self.assertTrue(str(raised.exception).endswith(message), raised.exception)
 
     def test_names_as_a_spreadsheet_writes_them(self) -> None:
         """With a byte order mark, CR LF, and line ends within a name; a number that no box has says nothing."""

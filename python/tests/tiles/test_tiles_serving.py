@@ -45,19 +45,19 @@ class Serving(Mapped):
 
 class Told(Serving):
     def test_tile_json(self) -> None:
-        told = self.json("/tiles.json")
-        self.assertEqual(told["tilejson"], "3.0.0")
-        self.assertEqual(told["tiles"], [f"{self.server.address}{{z}}/{{x}}/{{y}}.pbf"])
-        self.assertEqual([it["id"] for it in told["vector_layers"]], [*LAYERS, "density"])
-        self.assertEqual([it["fields"] for it in told["vector_layers"]], [{"name": "String"}] * 6 + [{"count": "Number"}])
-        self.assertEqual((told["minzoom"], told["maxzoom"]), (0, 22))
+        tiles = self.json("/tiles.json")
+        self.assertEqual(tiles["tilejson"], "3.0.0")
+        self.assertEqual(tiles["tiles"], [f"{self.server.address}{{z}}/{{x}}/{{y}}.pbf"])
+        self.assertEqual([it["id"] for it in tiles["vector_layers"]], [*LAYERS, "density"])
+        self.assertEqual([it["fields"] for it in tiles["vector_layers"]], [{"name": "String"}] * 6 + [{"count": "Number"}])
+        self.assertEqual((tiles["minzoom"], tiles["maxzoom"]), (0, 22))
         x1, x2, y1, y2 = self.json("/about")["bounds"]
-        west, south, east, north = told["bounds"]
+        west, south, east, north = tiles["bounds"]
         self.assertAlmostEqual(west, x1 / HALF * 180, delta=1e-6)
         self.assertAlmostEqual(east, x2 / HALF * 180, delta=1e-6)
         self.assertTrue(-90 < south < north < 90 and south < 0 < north)  # near the equator it is as in x, but for a part
         self.assertAlmostEqual(north, y2 / HALF * 180, delta=1e-3 * abs(north))
-        z = told["center"][2]
+        z = tiles["center"][2]
         self.assertTrue(max(x2 - x1, y2 - y1) <= 2 * 2 * HALF / 2**z < 2 * max(x2 - x1, y2 - y1) + 2)
 
     def test_addresses_as_others_have_them(self) -> None:
@@ -69,7 +69,7 @@ class Told(Serving):
         reply, body = self.asked("/tiles.json", Host=f"LOCALHOST:{self.server.port}")
         self.assertEqual(json.loads(body)["tiles"], [f"http://localhost:{self.server.port}/{{z}}/{{x}}/{{y}}.pbf"])
 
-    def test_gdal_reads_tiles_by_what_is_told(self) -> None:
+    def test_gdal_reads_tiles_by_their_description(self) -> None:
         """All boxes of a window at a level, from the TileJSON alone."""
         wants("ogrinfo")
         address = self.server.address
@@ -87,14 +87,14 @@ class Told(Serving):
 
     def test_style(self) -> None:
         """Each layer that tiles may have is drawn, from the source that is told."""
-        told = self.json("/style.json")
-        self.assertEqual(told["version"], 8)
-        self.assertEqual(told["sources"], {"boxes": {"type": "vector", "url": f"{self.server.address}tiles.json"}})
-        ground, *layers = told["layers"]
+        style = self.json("/style.json")
+        self.assertEqual(style["version"], 8)
+        self.assertEqual(style["sources"], {"boxes": {"type": "vector", "url": f"{self.server.address}tiles.json"}})
+        ground, *layers = style["layers"]
         self.assertEqual(ground["type"], "background")
         self.assertEqual({it["source-layer"] for it in layers}, {*LAYERS, "density"})
         self.assertEqual({it["source"] for it in layers}, {"boxes"})
-        self.assertEqual(len({it["id"] for it in told["layers"]}), len(told["layers"]))
+        self.assertEqual(len({it["id"] for it in style["layers"]}), len(style["layers"]))
         shades = [it["paint"]["fill-opacity"] for it in layers if it["source-layer"] == "density"]
         self.assertEqual(shades, sorted({*shades}))
         colours = re.search(r"COLOURS = (\[.*?\])", (ROOT / "python/rtfilter/tiles/page.js").read_text())
@@ -104,8 +104,8 @@ class Told(Serving):
 
     def test_style_by_the_rules(self) -> None:
         """Those of the style specification and of TileJSON, which refuse what is broken."""
-        style, told = self.json("/style.json"), self.json("/tiles.json")
-        self.assertEqual(faults_of(style, told), [])
+        style, tiles = self.json("/style.json"), self.json("/tiles.json")
+        self.assertEqual(faults_of(style, tiles), [])
         breaks: list[tuple[str, Callable[[dict[str, Any], dict[str, Any]], Any]]] = [
             ("the style's members", lambda style, _: style.update(version=7)),
             ("source boxes", lambda style, _: style["sources"]["boxes"].update(type="geojson")),
@@ -116,11 +116,11 @@ class Told(Serving):
             ("layer fill of density from 1: fill-opacity", lambda style, _: style["layers"][1]["paint"].update({"fill-opacity": 2})),
             ("layer fill of density from 4: filter", lambda style, _: style["layers"][2]["filter"].append(["<", "count", 1])),
             ("layer land: a background draws nothing else", lambda style, _: style["layers"][0].update(source="boxes")),
-            ("vector_layers", lambda _, told: told["vector_layers"][0].pop("fields")),
-            ("levels, bounds or center", lambda _, told: told["center"].__setitem__(2, 23)),
+            ("vector_layers", lambda _, tiles: tiles["vector_layers"][0].pop("fields")),
+            ("levels, bounds or center", lambda _, tiles: tiles["center"].__setitem__(2, 23)),
         ]
         for fault, breaking in breaks:
-            broken = json.loads(json.dumps([style, told]))
+            broken = json.loads(json.dumps([style, tiles]))
             breaking(*broken)
             self.assertEqual(faults_of(*broken), [fault])
 
@@ -134,13 +134,13 @@ class Caches(Serving):
         connection = self.server.connected()
         self.addCleanup(connection.close)
         for target in (TILE, EMPTY, "/", "/tiles.json", "/about", "/ask?q=count+all", "/nothing", "/view"):
-            told = []
+            heads = []
             for method in ("GET", "HEAD"):
                 connection.request(method, target, headers={"Accept-Encoding": "gzip"})
                 reply = connection.getresponse()
                 body = reply.read()
-                told.append((reply.status, [it for it in reply.getheaders() if it[0] != "Date"]))
-            self.assertEqual(told[0], told[1], target)
+                heads.append((reply.status, [it for it in reply.getheaders() if it[0] != "Date"]))
+            self.assertEqual(heads[0], heads[1], target)
             self.assertEqual(body, b"")
 
     def test_tags(self) -> None:
@@ -171,7 +171,7 @@ class Caches(Serving):
             (["*"], 304), ([f'"x", {tag}, "y"'], 304), ([f"W/{tag}"], 304), (['"x"', '"y"'], 200),
             ([tag[:-1]], 200), ([], 200),
         ):  # fmt: skip
-            told = []
+            heads = []
             for method in ("GET", "HEAD"):
                 connection.putrequest(method, TILE)
                 for it in known:
@@ -179,8 +179,8 @@ class Caches(Serving):
                 connection.endheaders()
                 reply = connection.getresponse()
                 body = reply.read()
-                told.append((reply.status, [it for it in reply.getheaders() if it[0] != "Date"]))
-            self.assertEqual((told[0], told[1][0], body), (told[1], status, b""), known)
+                heads.append((reply.status, [it for it in reply.getheaders() if it[0] != "Date"]))
+            self.assertEqual((heads[0], heads[1][0], body), (heads[1], status, b""), known)
 
     def test_another_table_has_another_tag(self) -> None:
         folder = Path(self.enterContext(tempfile.TemporaryDirectory()))
@@ -200,9 +200,9 @@ class Caches(Serving):
         self.assertEqual(self.asked(TILE)[0].headers["Cache-Control"], "public, max-age=60")
         self.assertEqual(self.asked(EMPTY)[0].headers["Cache-Control"], "public, max-age=60")
         self.assertEqual(self.asked("/tiles.json")[0].headers["Cache-Control"], "no-cache")
-        for age, told in (("0", "no-cache"), ("86400", "public, max-age=86400")):
+        for age, control in (("0", "no-cache"), ("86400", "public, max-age=86400")):
             with Server(self.table, "--max-age", age) as server:
-                self.assertEqual(self.asked(TILE, server)[0].headers["Cache-Control"], told)
+                self.assertEqual(self.asked(TILE, server)[0].headers["Cache-Control"], control)
 
     def test_gzip(self) -> None:
         """The same bytes, for whoever asks for it, where they are some."""
@@ -248,8 +248,8 @@ class Origins(Serving):
                 own[0] = f"http://127.0.0.1:{server.port}"
                 for origin in (*own, *allowed):
                     reply, _ = self.asked(TILE, server, Origin=origin)
-                    told = origin if origin in allowed else None
-                    self.assertEqual((reply.status, reply.headers["Access-Control-Allow-Origin"]), (200, told), origin)
+                    answered = origin if origin in allowed else None
+                    self.assertEqual((reply.status, reply.headers["Access-Control-Allow-Origin"]), (200, answered), origin)
                 for origin in refused:
                     reply, _ = self.asked(TILE, server, Origin=origin)
                     self.assertEqual((reply.status, reply.headers["Access-Control-Allow-Origin"]), (403, None), origin)
@@ -267,16 +267,16 @@ class Origins(Serving):
         self.addCleanup(browser.close)
         with blank_pages() as port:
             origin = f"http://127.0.0.1:{port}"
-            for options, told in ((["--origin", origin], 200), ([], "TypeError: Failed to fetch")):
+            for options, expected in ((["--origin", origin], 200), ([], "TypeError: Failed to fetch")):
                 with Server(self.table, *options) as server:
                     browser.open(f"{origin}/")
                     browser.until(f"location.origin === '{origin}' && document.readyState === 'complete'")
                     asked = f"fetch('{server.address.rstrip('/')}{TILE}').then(it => it.status, String)"
-                    self.assertEqual(browser.value(asked), told)
+                    self.assertEqual(browser.value(asked), expected)
 
 
 class Ids(Serving):
-    def test_what_a_feature_is_told_by(self) -> None:
+    def test_what_identifies_a_feature(self) -> None:
         """Its own id is its box's; below 0 there is none, and the property `id` has it."""
         folder = Path(self.enterContext(tempfile.TemporaryDirectory()))
         table, names = folder / "boxes.csv", folder / "names.csv"
