@@ -357,8 +357,8 @@ def sides():
     parts = [scene.box((7, 23, 4, 14), YES)]
     parts += [scene.label(3.4, 9, "min_x"), scene.label(26.6, 9, "max_x"), scene.label(15, 2.4, "min_y"), scene.label(15, 15.6, "max_y")]
     rows = ("rtfilter, SQLite", "min_x, max_x, min_y, max_y"), ("shapely, GeoJSON, PostGIS", "min_x, min_y, max_x, max_y")
-    for at, (who, order) in enumerate(rows):
-        parts += [text(310, 60 + 70 * at, who), text(310, 84 + 70 * at, order, MONO)]
+    for at, (system, order) in enumerate(rows):
+        parts += [text(310, 60 + 70 * at, system), text(310, 84 + 70 * at, order, MONO)]
     return svg(590, STEP * 18 + 24, "A box with its four sides, and two orders in which they are written", parts)
 
 
