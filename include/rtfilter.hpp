@@ -143,11 +143,11 @@ public:
         all.ends.resize(queries.size());
         const rtfilter_queries every = {queries.data(), queries.size(), vertices.data(), vertices.size()};
         rtfilter_queries rest = every;
-        std::size_t skip = 0, found = 0, first = 0, room = std::max<std::size_t>(256, 32 * queries.size());
+        std::size_t skip = 0, found = 0, first = 0, capacity = std::max<std::size_t>(256, 32 * queries.size());
         for (;;) {
-            all.ids.resize(found + room);
-            all.scores.resize(scores ? found + room : 0);
-            rtfilter_answers part = {all.ids.data() + found, scores ? all.scores.data() + found : nullptr, room,
+            all.ids.resize(found + capacity);
+            all.scores.resize(scores ? found + capacity : 0);
+            rtfilter_answers part = {all.ids.data() + found, scores ? all.scores.data() + found : nullptr, capacity,
                                      all.ends.data() + first, 0, 0};
             const int code = rtfilter_find(&session, &rest, skip, &part);
             if (code != RTFILTER_FULL)
@@ -159,7 +159,7 @@ public:
             first += part.done;
             if (code == RTFILTER_OK)
                 break;
-            room = left(rest, every, first) - skip;
+            capacity = left(rest, every, first) - skip;
         }
         all.ids.resize(found);
         all.scores.resize(scores ? found : 0);

@@ -360,7 +360,7 @@ class WantOfRoom(Case):
         self.assert_well(service)
         until(lambda: service.open_files == before, "nothing left open")
 
-    def test_no_room_to_watch_one_more(self) -> None:
+    def test_one_more_than_can_be_watched(self) -> None:
         """The table is exchanged all the same, and who connects is answered."""
         environment, flag = self.preload(NO_EPOLL)
         service = self.served(BOXES, "--health", "0", env=environment)

@@ -230,13 +230,13 @@ class SomeViews(Mapped):
 
 class Maps(unittest.TestCase):
     def test_the_same_seed_makes_the_same_map(self) -> None:
-        room = Path(self.enterContext(tempfile.TemporaryDirectory()))
+        folder = Path(self.enterContext(tempfile.TemporaryDirectory()))
         for name, seed in ("one", 1), ("again", 1), ("other", 2):
-            make_map(room / name, 2000, seed)
+            make_map(folder / name, 2000, seed)
         for name in ("boxes.csv", "names.csv", "layers.csv"):
-            self.assertEqual((room / "one" / name).read_bytes(), (room / "again" / name).read_bytes())
-        self.assertNotEqual((room / "one/boxes.csv").read_bytes(), (room / "other/boxes.csv").read_bytes())
-        self.assertEqual(number_of(room / "one/boxes.csv", "count all"), 2000)
+            self.assertEqual((folder / "one" / name).read_bytes(), (folder / "again" / name).read_bytes())
+        self.assertNotEqual((folder / "one/boxes.csv").read_bytes(), (folder / "other/boxes.csv").read_bytes())
+        self.assertEqual(number_of(folder / "one/boxes.csv", "count all"), 2000)
 
 
 def copy_map(table: Path) -> None:

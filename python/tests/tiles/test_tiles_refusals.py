@@ -142,25 +142,25 @@ class Tables(unittest.TestCase):
             Server(table)
 
     def test_names_that_are_none(self) -> None:
-        room = Path(self.enterContext(tempfile.TemporaryDirectory()))
-        (room / "boxes.csv").write_text("1,0,1,0,1,3\n2,0,1,0,1,4\n")
+        folder = Path(self.enterContext(tempfile.TemporaryDirectory()))
+        (folder / "boxes.csv").write_text("1,0,1,0,1,3\n2,0,1,0,1,4\n")
         for text, message in (
             ("3,x\nid,name\n", "names.csv, line 2: not a number and a name\n"),
             ("3,x\n4\n", "names.csv, line 2: not a number and a name\n"),
             ("3,x\n4,x\n", "rtfilter-tiles: two layers have the same name\n"),
             ("4,layer 3\n", "rtfilter-tiles: two layers have the same name\n"),
         ):
-            (room / "names.csv").write_text(text)
+            (folder / "names.csv").write_text(text)
             with self.assertRaises(RuntimeError) as raised:
-                Server(room / "boxes.csv", "--layers", str(room / "names.csv"))
+                Server(folder / "boxes.csv", "--layers", str(folder / "names.csv"))
             self.assertTrue(str(raised.exception).endswith(message), raised.exception)
 
     def test_names_as_a_spreadsheet_writes_them(self) -> None:
         """With a byte order mark, CR LF, and line ends within a name; a number that no box has says nothing."""
-        room = Path(self.enterContext(tempfile.TemporaryDirectory()))
-        (room / "boxes.csv").write_text("1,0,1,0,1\n2,0,1,0,1\n")
-        (room / "names.csv").write_bytes(b'\xef\xbb\xbf1,"a\r\nb"\r\n\r\n99999999999999999999,x\r\n')
-        with Server(room / "boxes.csv", "--names", str(room / "names.csv")) as server:
+        folder = Path(self.enterContext(tempfile.TemporaryDirectory()))
+        (folder / "boxes.csv").write_text("1,0,1,0,1\n2,0,1,0,1\n")
+        (folder / "names.csv").write_bytes(b'\xef\xbb\xbf1,"a\r\nb"\r\n\r\n99999999999999999999,x\r\n')
+        with Server(folder / "boxes.csv", "--names", str(folder / "names.csv")) as server:
             answers = json.loads(server.get("/ask?q=find+all+first+2")[1])["answers"]
             self.assertEqual([answer.get("name") for answer in answers], ["a\r\nb", None])
 
