@@ -77,9 +77,9 @@ class Bench:
 
     def write_tables(self):
         """Writes the tables that take long side by side."""
-        wanted = [("even", IDS_BOXES, order) for order in IDS] + [(name, BOXES, "shuffled") for name in TABLES]
+        tables = [("even", IDS_BOXES, order) for order in IDS] + [(name, BOXES, "shuffled") for name in TABLES]
         with ProcessPoolExecutor() as pool:
-            list(pool.map(self.table, *zip(*wanted)))
+            list(pool.map(self.table, *zip(*tables)))
 
     def without_scan(self):
         return {name: path for name, path in self.programs.items() if name != SCAN}

@@ -86,7 +86,7 @@ def in_one_process(boxes, tables, queries):
     return found, counts, near
 
 
-def over_workers(boxes, tables, queries, workers, wanted):
+def over_workers(boxes, tables, queries, workers, expected):
     """Whether dask's workers answer the same, with one of them killed in the middle of the last call."""
     import dask
     import dask.dataframe
@@ -103,7 +103,7 @@ def over_workers(boxes, tables, queries, workers, wanted):
         parts = max(workers, 2 * tables)
         held = timed("partitioned and loaded", boxes, lambda: Boxes(spatial_shuffle(frame, parts)), clock)
         asked = dask.dataframe.from_pandas(queries, npartitions=2 * workers)
-        (places, ids), counts, near = wanted
+        (places, ids), counts, near = expected
         found = timed("a window", len(queries), lambda: held.query(asked[SIDES]).compute(), clock)
         same = equal(found, places, id=ids)
         same &= timed("a count", len(queries), lambda: held.count(asked[SIDES]).compute(), clock).tolist() == counts.tolist()
@@ -134,8 +134,8 @@ def main():
     parser.add_argument("--queries", type=int, default=100_000, metavar="Q", help="queries of each kind (default 100,000)")
     args = parser.parse_args()
     queries = queries_of(args.queries, args.boxes)
-    wanted = in_one_process(args.boxes, args.tables, queries)
-    if args.workers and not over_workers(args.boxes, args.tables, queries, args.workers, wanted):
+    expected = in_one_process(args.boxes, args.tables, queries)
+    if args.workers and not over_workers(args.boxes, args.tables, queries, args.workers, expected):
         print("the answers differ")
         return 1
     print("the answers are the same" if args.workers else "dask was left out")

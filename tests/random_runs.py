@@ -438,11 +438,11 @@ def differs(program, folder, chance, met):
     table, queries = some_table(chance), some_queries(chance)
     header, most = chance.random() < 0.2, chance.choice([MOST_ENTRIES] * 9 + [5, 1])
     fanout = chance.choice(FANOUTS)
-    wanted = reading.expected(table, queries, header, most, fanout)
-    met.update(re.findall(r"record \d+: (.*)", wanted[2].decode()))
-    for line, text in enumerate(reading.lines_of(queries) if not wanted[2] else [], 1):
-        met.update(kinds(line, text, wanted[1]))
-    return difference(program, folder, table, queries, header, most, fanout, wanted)
+    expected = reading.expected(table, queries, header, most, fanout)
+    met.update(re.findall(r"record \d+: (.*)", expected[2].decode()))
+    for line, text in enumerate(reading.lines_of(queries) if not expected[2] else [], 1):
+        met.update(kinds(line, text, expected[1]))
+    return difference(program, folder, table, queries, header, most, fanout, expected)
 
 
 def costs_differ(program, folder, chance, met):
@@ -451,32 +451,32 @@ def costs_differ(program, folder, chance, met):
     boxes = reading.boxes(table, False, MOST_ENTRIES)
     lines = [line for _ in range(5) for line in some_costs(chance, boxes)]
     queries = b"".join(line + b"\n" for line in lines)
-    wanted = reading.expected(table, queries, fanout=fanout)
-    for line, cost in zip(lines, re.findall(rb"^ok \d+ (\d+)$", wanted[1], re.MULTILINE), strict=True):
+    expected = reading.expected(table, queries, fanout=fanout)
+    for line, cost in zip(lines, re.findall(rb"^ok \d+ (\d+)$", expected[1], re.MULTILINE), strict=True):
         met.update(cost_kinds(boxes, fanout, line, int(cost)))
-    return difference(program, folder, table, queries, False, MOST_ENTRIES, fanout, wanted)
+    return difference(program, folder, table, queries, False, MOST_ENTRIES, fanout, expected)
 
 
 def limits_differ(program, folder, chance, met):
     """The same of a run over many boxes, of which so many are asked for."""
     table, fanout = some_many_boxes(chance), chance.choice(FANOUTS)
     lines = [some_limited(chance) for _ in range(12)]
-    wanted = reading.expected(table, b"".join(line + b"\n" for line in lines), fanout=fanout)
+    expected = reading.expected(table, b"".join(line + b"\n" for line in lines), fanout=fanout)
     boxes = reading.boxes(table, False, MOST_ENTRIES)
     for line in lines:
         met.update(limit_kinds(boxes, line))
-    return difference(program, folder, table, b"".join(line + b"\n" for line in lines), False, MOST_ENTRIES, fanout, wanted)
+    return difference(program, folder, table, b"".join(line + b"\n" for line in lines), False, MOST_ENTRIES, fanout, expected)
 
 
-def difference(program, folder, table, queries, header, most, fanout, wanted):
+def difference(program, folder, table, queries, header, most, fanout, expected):
     """Makes a run, and tells it where it isn't what is wanted."""
     Path(folder, "table").write_bytes(table)
     words = ["--header"] * header + ["--fanout", str(fanout), "--max-entries", str(most), "table"]
     done = subprocess.run([program, *words], cwd=folder, input=queries, capture_output=True, timeout=60)
     found = done.returncode, done.stdout, done.stderr
-    if found == wanted:
+    if found == expected:
         return None
-    return f"{' '.join(words)}\n  table    {table}\n  queries  {queries}\n  expected {wanted}\n  found    {found}"
+    return f"{' '.join(words)}\n  table    {table}\n  queries  {queries}\n  expected {expected}\n  found    {found}"
 
 
 def kinds(at, line, output):

@@ -130,20 +130,20 @@ class Refuser:
             found.append(result)
 
 
-def differences(found, wanted):
+def differences(found, expected):
     """Which results aren't among those that are wanted of them."""
-    wrong = [f"{len(found)} runs, and not {len(wanted)}"] if len(found) != len(wanted) else []
-    for at, (result, allowed) in enumerate(zip(found, wanted), 1):
+    wrong = [f"{len(found)} runs, and not {len(expected)}"] if len(found) != len(expected) else []
+    for at, (result, allowed) in enumerate(zip(found, expected), 1):
         if result not in allowed:
             wrong.append(f"run {at}: {result!s:.300}")
     return wrong
 
 
 def memory(refuser, program):
-    for words, stdin, wanted in RUNS:
+    for words, stdin, expected in RUNS:
         for many in (ONCE, FROM_THERE_ON):
             found, whole = refuser.each([program, *words], Refusal("memory", errno.ENOMEM, many), stdin)
-            wrong = differences([*found, whole], [[NO_MEMORY]] * len(found) + [[wanted]])
+            wrong = differences([*found, whole], [[NO_MEMORY]] * len(found) + [[expected]])
             yield f"memory, {' '.join(words):.50}{', and all after it' * (many > 1)}", len(found), wrong
 
 
@@ -187,13 +187,13 @@ def devices(refuser, program):
             yield f"reads, {os.strerror(error)}{', and all after it' * (many > 1)}", len(found), wrong
     once = [[(5, part, NOT_WRITTEN)] for part in parts[:-1]]
     none = [[(5, part, b"")] for part in parts[:-1]]
-    for name, error, many, wanted in (
+    for name, error, many, expected in (
         ("writes", errno.EIO, ONCE, once),
         ("writes, and all after it", errno.EIO, FROM_THERE_ON, none),
         ("writes that are interrupted", errno.EINTR, ONCE, [[answered]] * len(once)),
     ):
         found, whole = refuser.each(command, Refusal("write", error, many))
-        yield name, len(found), differences([*found, whole], [*wanted, [answered]])
+        yield name, len(found), differences([*found, whole], [*expected, [answered]])
 
 
 def long_answers(refuser, program):
@@ -227,9 +227,9 @@ def given_up(refuser, program):
 
 def opens(refuser, program):
     """TABLE is opened once, and then QUERIES once, where they are named."""
-    for words, wanted in ((["boxes.csv", "queries.txt"], NOT_OPENED), (["boxes.csv"], NOT_OPENED[:1])):
+    for words, expected in ((["boxes.csv", "queries.txt"], NOT_OPENED), (["boxes.csv"], NOT_OPENED[:1])):
         found, whole = refuser.each([program, *words], Refusal("open", errno.EACCES, ONCE), QUERIES)
-        wrong = differences([*found, whole], [*([one] for one in wanted), [(0, ANSWERS, b"")]])
+        wrong = differences([*found, whole], [*([one] for one in expected), [(0, ANSWERS, b"")]])
         yield f"opens, {' '.join(words)}", len(found), wrong
 
 
@@ -247,12 +247,12 @@ def files_first(refuser, program):
 
 def short(refuser, program):
     """Reads and writes that move a single byte: the run is as ever."""
-    for words, stdin, wanted in [*RUNS, (["many.csv"], b"find all\n", reading.expected(MANY, b"find all\n"))]:
+    for words, stdin, expected in [*RUNS, (["many.csv"], b"find all\n", reading.expected(MANY, b"find all\n"))]:
         # (a run with bad words reads nothing)
-        for call in ("read", "write") if wanted[0] != 2 else ("write",):
-            many = FROM_THERE_ON if len(wanted[1]) < 1000 else ONCE
+        for call in ("read", "write") if expected[0] != 2 else ("write",):
+            many = FROM_THERE_ON if len(expected[1]) < 1000 else ONCE
             found, whole = refuser.each([program, *words], Refusal(call, 0, many), stdin)
-            wrong = differences([*found, whole], [[wanted]] * (len(found) + 1))
+            wrong = differences([*found, whole], [[expected]] * (len(found) + 1))
             yield f"single bytes a {call}, {' '.join(words):.50}", len(found), wrong
 
 

@@ -323,7 +323,7 @@ class Packages(unittest.TestCase):
             run("dpkg-deb", "--root-owner-group", "--build", f"{folder}/newer", newer)
             dpkg = ["env", f"PATH={os.environ['PATH']}:/usr/sbin:/sbin", "dpkg", f"--root={system}", f"--log={os.devnull}"]
             run(*dpkg, "--install", self.packages["rtfilter"])
-            for words, active, wanted in (
+            for words, active, expected in (
                 (("--install", self.packages["rtfilter-service"]), False, []),
                 (("--install", newer), True, [f"--quiet --system restart {ALL_UNITS}", f"try-restart {INSTANCES}"]),
                 (("--install", newer), False, [f"try-restart {INSTANCES}"]),
@@ -331,7 +331,7 @@ class Packages(unittest.TestCase):
             ):
                 (system / "log").unlink(missing_ok=True)
                 run(*dpkg, *words)
-                self.assertEqual(self.called(system / "log", active), wanted, words)
+                self.assertEqual(self.called(system / "log", active), expected, words)
 
     def called(self, log: Path, active: bool) -> list[str]:
         """What the system's deb-systemd-invoke has systemctl do, as it is called in a log."""

@@ -119,9 +119,9 @@ def test_floats_and_geometries() -> None:
     asked = dataframe.from_pandas(queries, npartitions=2, sort=False)
     tables = Boxes(spatial_shuffle(dataframe.from_pandas(floats, npartitions=3, sort=False), 4))
     scaled = floats[SIDES].mul(8).astype("i8").assign(id=floats["id"], layer=0)
-    wanted = expected(Rtfilter(rows_of(scaled)), queries.mul(8).astype("i8"))
-    assert listed(tables.query(asked)) == wanted
-    assert tables.count(asked).compute().sum() == len(wanted)
+    pairs = expected(Rtfilter(rows_of(scaled)), queries.mul(8).astype("i8"))
+    assert listed(tables.query(asked)) == pairs
+    assert tables.count(asked).compute().sum() == len(pairs)
     shapes = [box(*it) for it in floats[["min_x", "min_y", "max_x", "max_y"]].to_numpy()]
     shaped = geopandas.GeoDataFrame(floats[["id", "name"]], geometry=[*shapes[:-2], None, shapes[-1]])
     others = geopandas.GeoDataFrame({"at": range(40)}, geometry=[box(*it) for it in queries[["min_x", "min_y", "max_x", "max_y"]].to_numpy()])

@@ -95,15 +95,15 @@ def test_predicates_are_those_of_shapely(predicate: str) -> None:
     for _ in range(15):
         held, asked = some_geometries(chance, 60), some_geometries(chance, 40)
         tree = STRtree(held)
-        wanted = [
+        expected = [
             (at, place)
             for at, one in enumerate(asked)
             for place, it in enumerate(held)
             if is_there(one) and is_there(it) and (it.covers(one) if predicate == "covered_by" else getattr(one, predicate)(it))
         ]
-        assert [*zip(*tree.query(asked, predicate).tolist())] == wanted
-        assert tree.query(asked[0], predicate).tolist() == [place for at, place in wanted if at == 0]
-        pairs += len(wanted)
+        assert [*zip(*tree.query(asked, predicate).tolist())] == expected
+        assert tree.query(asked[0], predicate).tolist() == [place for at, place in expected if at == 0]
+        pairs += len(expected)
     assert pairs > 20
 
 
@@ -187,11 +187,11 @@ def test_joins_are_those_of_geopandas(how: str, predicate: str) -> None:
         right = geopandas.GeoDataFrame({"n": range(30), "b": "x"}, geometry=some_geometries(chance, 30), index=range(100, 130))
         with warnings.catch_warnings():
             warnings.simplefilter("ignore")
-            wanted = geopandas.sjoin(left, right, how=how, predicate=predicate)
+            expected = geopandas.sjoin(left, right, how=how, predicate=predicate)
         found = sjoin(left, right, how=how, predicate=predicate)
-        assert set(found) == set(wanted) and type(found) is type(wanted)
-        assert listed(found) == listed(wanted)
-        assert found.geometry.name == wanted.geometry.name
+        assert set(found) == set(expected) and type(found) is type(expected)
+        assert listed(found) == listed(expected)
+        assert found.geometry.name == expected.geometry.name
         pairs += len(found)
     assert pairs > 10
 
@@ -233,10 +233,10 @@ def test_the_calls_of_shapely_2(monkeypatch: pytest.MonkeyPatch) -> None:
     calls: list[Callable[[STRtree], Any]] = [lambda it: it.query(asked), lambda it: it.query_nearest(asked, return_distance=True)]
     calls += [lambda it, name=name: it.query(asked, name) for name in MIRRORED]  # type: ignore[misc]
     calls += [lambda it: it.query(asked, "dwithin", distance=1.5), lambda it: it.query_nearest(asked, max_distance=1.0)]
-    wanted = [call(STRtree(held)) for call in calls]
+    expected = [call(STRtree(held)) for call in calls]
     monkeypatch.setattr(geometry, "shapely", stand_in)
     monkeypatch.setattr(geometry, "IS_TWO", True)
-    for call, it in zip(calls, wanted):
+    for call, it in zip(calls, expected):
         for one, other in zip(call(STRtree(held)), it, strict=True):
             assert numpy.array_equal(one, other)
     assert len(prepared) == len(MIRRORED)

@@ -140,7 +140,7 @@ class SameAsProgram(Case):
 class Askers(Case):
     def test_a_reader_that_leaves_in_mid_answer(self) -> None:
         service = self.served(table_of(self.folder, "many", 0, 50_000))
-        wanted = output_of_program(Path(self.folder, "many"), b"find all first 1000\ncount all\n" * 20)
+        expected = output_of_program(Path(self.folder, "many"), b"find all first 1000\ncount all\n" * 20)
         found: list[bytes] = []
         other = threading.Thread(target=lambda: found.append(service.ask(b"find all first 1000\ncount all\n" * 20)))
         with all_of([other]):
@@ -148,7 +148,7 @@ class Askers(Case):
                 with service.connect() as asker:
                     asker.sendall(b"find all\n" * 100)
                     asker.recv(1000)
-        self.assertEqual(found, [wanted])
+        self.assertEqual(found, [expected])
         self.assertEqual(len(service.logs("status=[45] ", 10)), 10)
         self.assert_well(service)
 
@@ -178,9 +178,9 @@ class Askers(Case):
             time.sleep(0.3)
             # The machine may have other work, but not in each of these rounds.
             self.assertTrue(any(self.worst_wait(service) < 0.05 for _ in range(50)))
-            wanted = answers(0, 100_000) + b"ok 1 100000\n"
+            expected = answers(0, 100_000) + b"ok 1 100000\n"
             for asker in slow:
-                self.assertEqual(read_lines(asker, 100_001)[:len(wanted)], wanted)
+                self.assertEqual(read_lines(asker, 100_001)[:len(expected)], expected)
 
     def worst_wait(self, service: Served) -> float:
         """Seconds that one of 200 lines waits for its reply."""
@@ -204,8 +204,8 @@ class Askers(Case):
                 with contextlib.suppress(ConnectionResetError):  # lines of it were left unread
                     while piece := asker.recv(1 << 18):
                         found += piece
-                wanted = b"".join(answers(0, 100_000) + b"ok %d 100000\n" % at for at in range(1, 9))
-                self.assertTrue(found and wanted.startswith(found))
+                expected = b"".join(answers(0, 100_000) + b"ok %d 100000\n" % at for at in range(1, 9))
+                self.assertTrue(found and expected.startswith(found))
         self.assertNotIn("cannot write", service.log_file.read_text())  # which would have neither a time nor a connection
         self.assert_well(service)
 

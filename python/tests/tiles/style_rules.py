@@ -55,11 +55,11 @@ def _of_layers(style: dict[str, Any], tile_json: dict[str, Any]) -> Iterator[str
                 yield f"{at}: {name}"
 
 
-def _is(wanted: str, value: Any) -> bool:
+def _is(kind: str, value: Any) -> bool:
     """Whether a value of a paint property is of a kind."""
-    if wanted == "color":
+    if kind == "color":
         return isinstance(value, str) and COLOUR.fullmatch(value) is not None
-    if wanted == "truth":
+    if kind == "truth":
         return isinstance(value, bool)
     return _is_number(value) and 0 <= value <= 1
 

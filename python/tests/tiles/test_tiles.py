@@ -107,8 +107,8 @@ class Tiles(Mapped):
         unit = (window[1] - window[0] + 1) / 4096
         for at, (found, side) in enumerate(zip(box, sides)):
             low, high = (window[0], window[1]) if at < 2 else (window[2], window[3])
-            wanted = min(max(side, low - 64 * unit), high + 64 * unit)
-            self.assertLessEqual(abs(found * 100 - wanted), 1.6 * unit + 2, (box, sides, window))
+            expected = min(max(side, low - 64 * unit), high + 64 * unit)
+            self.assertLessEqual(abs(found * 100 - expected), 1.6 * unit + 2, (box, sides, window))
 
     def test_a_tile_of_too_many_boxes_has_counts(self) -> None:
         tiles = [(0, 0, 0), *((6, x, y) for x in (31, 32) for y in (31, 32))]
@@ -118,9 +118,9 @@ class Tiles(Mapped):
         for z, x, y in full:
             across, along = (cuts(*interval, 32) for interval in (window_of(z, x, y)[:2], window_of(z, x, y)[2:]))
             replies = replies_of(self.table, ["count window %d %d %d %d" % cell for cell in cells_of(across, along)])
-            wanted = [count for reply in replies if (count := int(reply[0].split()[2]))]
+            expected = [count for reply in replies if (count := int(reply[0].split()[2]))]
             features = self.features(z, x, y)
-            self.assertEqual([int(properties["count"]) for _, properties, _ in features], wanted)
+            self.assertEqual([int(properties["count"]) for _, properties, _ in features], expected)
             self.assertEqual({layer for layer, _, _ in features}, {"density"})
 
     def test_counts_are_those_of_a_whole_level(self) -> None:

@@ -59,9 +59,9 @@ class Page(Mapped):
 
     def assert_places(self, numbers: Sequence[str | float], *pixels: tuple[int, int]) -> None:
         """Coordinates are the places of these pixels, but for rounding."""
-        wanted = [number for pixel in pixels for number in self.place_of(*pixel)]
-        self.assertEqual(len(numbers), len(wanted))
-        for number, place in zip(numbers, wanted):
+        expected = [number for pixel in pixels for number in self.place_of(*pixel)]
+        self.assertEqual(len(numbers), len(expected))
+        for number, place in zip(numbers, expected):
             self.assertAlmostEqual(float(number), place, delta=3)
 
     def assert_answer(self, begins: str, ends: str = " first 1000") -> list[str]:

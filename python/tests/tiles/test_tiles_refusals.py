@@ -98,13 +98,13 @@ class Refusals(Mapped):
             if reply.status != 200:
                 self.assertEqual(reply.status, 400)
                 continue
-            found, wanted = json.loads(body), replies_of(self.table, [line])
+            found, expected = json.loads(body), replies_of(self.table, [line])
             if found.get("fault", "").startswith(("here ", "a line ")):
                 refused += 1
                 continue
             rows = [f"{answer['id']} {answer['score']}" for answer in found.get("answers", [])]
             last = f"ok 1 {found['total']}" if "total" in found else f"error 1 {found['fault']}"
-            self.assertEqual([[*rows, last]], wanted, line)
+            self.assertEqual([[*rows, last]], expected, line)
             self.assertLessEqual(len(rows), 1000)
             asked += 1
         self.assertGreater(min(asked, refused), 20)
