@@ -102,16 +102,16 @@ def over_workers(boxes, tables, queries, workers, expected):
         frame = dask.dataframe.from_delayed(frames, meta=boxes_of(0, 1, 0))
         parts = max(workers, 2 * tables)
         held = timed("partitioned and loaded", boxes, lambda: Boxes(spatial_shuffle(frame, parts)), clock)
-        asked = dask.dataframe.from_pandas(queries, npartitions=2 * workers)
+        partitioned = dask.dataframe.from_pandas(queries, npartitions=2 * workers)
         (places, ids), counts, near = expected
-        found = timed("a window", len(queries), lambda: held.query(asked[SIDES]).compute(), clock)
+        found = timed("a window", len(queries), lambda: held.query(partitioned[SIDES]).compute(), clock)
         same = equal(found, places, id=ids)
-        same &= timed("a count", len(queries), lambda: held.count(asked[SIDES]).compute(), clock).tolist() == counts.tolist()
-        nearest = timed(f"the nearest {K}", len(queries), lambda: held.nearest(asked[["x", "y"]], K).compute(), clock)
+        same &= timed("a count", len(queries), lambda: held.count(partitioned[SIDES]).compute(), clock).tolist() == counts.tolist()
+        nearest = timed(f"the nearest {K}", len(queries), lambda: held.nearest(partitioned[["x", "y"]], K).compute(), clock)
         same &= equal(nearest, near[0], id=near[1], score=near[2])
         print(f"memory of a worker: {max(client.run(memory).values()) / 2**20:.0f} MB", flush=True)
         threading.Timer(0.2, os.kill, [next(iter(pids.values())), signal.SIGKILL]).start()
-        again = timed("a window, while a worker is killed", len(queries), lambda: held.query(asked[SIDES]).compute(), time.monotonic)
+        again = timed("a window, while a worker is killed", len(queries), lambda: held.query(partitioned[SIDES]).compute(), time.monotonic)
         return same & equal(again, places, id=ids)
 
 

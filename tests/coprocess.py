@@ -213,7 +213,7 @@ def a_line_that_does_not_end(start):
 
 def closed_input(start):
     """Whatever stands behind the last line feed is answered at the end."""
-    for asked, behind, status, output in (
+    for line, behind, status, output in (
         (b"count all", b"", 0, b""),
         (b"x", b"", 1, b""),
         (b"count all", b"count all", 0, b"ok 2 %d\n" % COUNT),
@@ -222,7 +222,7 @@ def closed_input(start):
         (b"count all", b"a" * 5000, 1, TOO_LONG_A_LINE % 2),
     ):
         with start() as held:
-            held.ask(asked)
+            held.ask(line)
             held.write(behind)
             held.expect_nothing()
             held.process.stdin.close()

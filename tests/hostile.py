@@ -89,10 +89,10 @@ def rare_lines(count):
     box, levels = count // 2, 1
     while FANOUT**levels < count:
         levels += 1
-    asked = FORMS % (RARE, LOW, HIGH, RARE, RARE, RARE) * LINES
+    lines = FORMS % (RARE, LOW, HIGH, RARE, RARE, RARE) * LINES
     expected = (b"ok %d 1\n%d 0\nok %d 1\n%d %d\nok %d 1\nok %d %d\n"
             % (at, box, at + 1, box, box**2, at + 2, at + 3, levels) for at in range(1, 4 * LINES, 4))
-    return asked, b"".join(expected)
+    return lines, b"".join(expected)
 
 
 def nearest_lines(count):
@@ -100,12 +100,12 @@ def nearest_lines(count):
     at_size, half = pow(STEP, -1, count), count // 2
     largest = (count - 1) * at_size % count
     boxes = [b"%d %d\n" % ((count - away) * at_size % count, away**2) for away in range(1, count + 1)]
-    asked = b"find all near %d 0\nnearest %d %d 0\n" % (count, half, count)
-    asked += b"nearest 1 %d 0\n" % count * AGAIN + b"find window %d %d 0 0\n" % (count - 1, count) * AGAIN
+    lines = b"find all near %d 0\nnearest %d %d 0\n" % (count, half, count)
+    lines += b"nearest 1 %d 0\n" % count * AGAIN + b"find window %d %d 0 0\n" % (count - 1, count) * AGAIN
     expected = [*boxes, b"ok 1 %d\n" % count, *boxes[:half], b"ok 2 %d\n" % half]
     expected += (b"%d 1\nok %d 1\n" % (largest, at) for at in range(3, 3 + AGAIN))
     expected += (b"%d 0\nok %d 1\n" % (largest, at) for at in range(3 + AGAIN, 3 + 2 * AGAIN))
-    return asked, b"".join(expected)
+    return lines, b"".join(expected)
 
 
 # Points on a grid, so far apart, and lines of every kind that each have to do with a few of them, near one place: so many

@@ -216,8 +216,8 @@ BAD_LISTS += [b"64", b"0,64,1", b"-1", b"64,x", b"64,", b"256", b"18446744073709
 
 def some_list(chance):
     """A list of layers, now and then with one of them twice."""
-    asked = chance.choices([0, 0, 1, 1, 5, 63, chance.randint(0, 63)], k=chance.choice([1, 1, 1, 2, 3, 8]))
-    return b",".join(written(chance, layer) for layer in asked)
+    chosen = chance.choices([0, 0, 1, 1, 5, 63, chance.randint(0, 63)], k=chance.choice([1, 1, 1, 2, 3, 8]))
+    return b",".join(written(chance, layer) for layer in chosen)
 
 
 def some_on(chance):
@@ -268,19 +268,19 @@ def some_query(chance):
 
 def some_costs(chance, boxes):
     """Lines that ask what queries for the same boxes cost: a count, all of them, and limits about their number."""
-    asked, order = chance.choice([some_boxes, some_wide_region])(chance), some_order(chance)
+    region, order = chance.choice([some_boxes, some_wide_region])(chance), some_order(chance)
     if chance.random() < 0.2:
-        asked, order = [b"all"], [b"near", *some_point(chance)]
-    find = [b"find", *asked, *order]
+        region, order = [b"all"], [b"near", *some_point(chance)]
+    find = [b"find", *region, *order]
     try:
         question = reading.question(reading.Words(b" ".join(find)))
     except reading.Fault:  # a polygon that isn't one
         return some_costs(chance, boxes)
     count = len(reading.answers(boxes, question.region.accepts, question.score, None))
-    lines = [[b"count", *asked], find]
+    lines = [[b"count", *region], find]
     for limit in {0, 1, chance.randint(0, count), max(count - 1, 0), count, count + 1}:
         lines.append([*find, b"first", b"%d" % limit])
-        if asked == [b"all"] and order[:1] == [b"near"]:
+        if region == [b"all"] and order[:1] == [b"near"]:
             lines.append([b"nearest", b"%d" % limit, *order[1:]])
     return [b" ".join([b"cost", *line]) for line in lines]
 
@@ -494,9 +494,9 @@ def kinds(at, line, output):
 
 def cost_kinds(boxes, fanout, line, cost):
     """What a line that asks for a cost is a case of: its limit beside the number of answers, the nodes beside all."""
-    asked = reading.question(reading.Words(line.removeprefix(b"cost")))
-    scores = [score for score, _ in reading.answers(boxes, asked.region.accepts, asked.score, None)]
-    limit, nodes = asked.limit, sum(reading.level_sizes(len(boxes), fanout)[1:])
+    query = reading.question(reading.Words(line.removeprefix(b"cost")))
+    scores = [score for score, _ in reading.answers(boxes, query.region.accepts, query.score, None)]
+    limit, nodes = query.limit, sum(reading.level_sizes(len(boxes), fanout)[1:])
     if limit in (None, 0, 1):
         yield f"a cost with the limit {limit}"
     elif limit < len(scores):
@@ -504,15 +504,15 @@ def cost_kinds(boxes, fanout, line, cost):
     else:
         yield "a cost with a limit at the end" if limit == len(scores) else "a cost with a limit beyond"
     yield "a cost of all nodes" if cost == nodes else "a cost of some nodes" if cost > 1 else f"a cost of {cost}"
-    if asked.verb == b"count" and cost < reading.opened(boxes, fanout, asked._replace(verb=b"find")):
+    if query.verb == b"count" and cost < reading.opened(boxes, fanout, query._replace(verb=b"find")):
         yield f"a node counted whole of {reading.Words(line).left[2].decode()}"
 
 
 def limit_kinds(boxes, line):
     """What a line with a limit is a case of: which limit, where there are more answers."""
-    asked = reading.question(reading.Words(line))
-    if asked.limit in FEW_AND_MANY and asked.limit < len(reading.answers(boxes, asked.region.accepts, asked.score, None)):
-        yield f"a limit of {asked.limit} below"
+    query = reading.question(reading.Words(line))
+    if query.limit in FEW_AND_MANY and query.limit < len(reading.answers(boxes, query.region.accepts, query.score, None)):
+        yield f"a limit of {query.limit} below"
 
 
 PARTS = {"find", "count", "near", "smallest", "first", *(name.decode() for name in REGIONS)}

@@ -152,10 +152,10 @@ def after_the_load(refuser, program):
     command, refusal = [program, "--fanout", "2", "layers.csv"], Refusal("memory", errno.ENOMEM, FROM_THERE_ON)
     chance = random.Random(1)
     lines = [random_runs.some_line(chance) for _ in range(500)] + [b"a" * 5000, b"find all near 3 3"]
-    asked = b"\n".join(lines)
+    queries = b"\n".join(lines)
     found, whole = refuser.each(command, refusal)
-    result, met = refuser.run(command, refusal, len(found) + 1, asked)
-    wrong = differences([whole, result], [[(0, b"", b"")], [reading.expected(LAYERED, asked, fanout=2)]])
+    result, met = refuser.run(command, refusal, len(found) + 1, queries)
+    wrong = differences([whole, result], [[(0, b"", b"")], [reading.expected(LAYERED, queries, fanout=2)]])
     if met:
         wrong.append(f"{met} growths after the load")
     yield f"no memory for {len(lines)} lines after the load", len(found), wrong
@@ -198,10 +198,10 @@ def devices(refuser, program):
 
 def long_answers(refuser, program):
     """Writes that fail or are interrupted where one reply is more than the buffer of standard output holds."""
-    asked = b"find all\n" * 3
-    answered = reading.expected(MANY, asked)
+    queries = b"find all\n" * 3
+    answered = reading.expected(MANY, queries)
     for name, error in (("writes", errno.EIO), ("writes that are interrupted", errno.EINTR)):
-        found, whole = refuser.each([program, "many.csv"], Refusal("write", error, ONCE), asked)
+        found, whole = refuser.each([program, "many.csv"], Refusal("write", error, ONCE), queries)
         wrong = []
         for at, (status, output, errors) in enumerate([*found, whole], 1):
             is_lost = at <= len(found) and error == errno.EIO
@@ -214,10 +214,10 @@ def long_answers(refuser, program):
 def given_up(refuser, program):
     """Where all writes fail from one on, two are refused: one of the output, and that of the line on standard error."""
     refusal = Refusal("write", errno.EIO, FROM_THERE_ON)
-    for name, asked in (("many lines", FILES["lines"]), ("long answers", b"find all\n" * 3)):
+    for name, queries in (("many lines", FILES["lines"]), ("long answers", b"find all\n" * 3)):
         made = []
         while True:
-            result, met = refuser.run([program, "many.csv"], refusal, len(made) + 1, asked)
+            result, met = refuser.run([program, "many.csv"], refusal, len(made) + 1, queries)
             if not met:
                 break
             made.append(met)

@@ -269,9 +269,9 @@ class Packages(unittest.TestCase):
                 run(*dpkg, "--install", *(self.packages[it] for it in names))
                 output = run(Path(system, "usr/bin/rtfilter"), DATA / "boxes.csv", DATA / "queries.txt")
                 self.assertEqual(output, (DATA / "answers.txt").read_text())
-                asked = f"import rtfilter; print(rtfilter.Rtfilter('{DATA / 'boxes.csv'}').count(rtfilter.All()))"
+                script = f"import rtfilter; print(rtfilter.Rtfilter('{DATA / 'boxes.csv'}').count(rtfilter.All()))"
                 words = {"PYTHONPATH": f"{system}/usr/lib/python3/dist-packages", "PATH": f"{system}/usr/bin:{path}", "LD_LIBRARY_PATH": f"{system}/{LIBRARIES}"}
-                self.assertEqual(run("/usr/bin/python3", "-B", "-c", asked, env=words), "5\n")
+                self.assertEqual(run("/usr/bin/python3", "-B", "-c", script, env=words), "5\n")
                 words["PYTHONDONTWRITEBYTECODE"] = "1"
                 examples = Path(system, "usr/share/rtfilter/examples")
                 zones, lines = examples / "data/zones.geojson", "it,16.38,48.19,1\n"

@@ -53,7 +53,7 @@ int epoll_ctl(int file, int what, int other, struct epoll_event *event)
 
 
 class SameAsProgram(Case):
-    def asked(self, service: Served, seed: int) -> None:
+    def check_replies(self, service: Served, seed: int) -> None:
         """One connection of random lines, cut anywhere."""
         chance = random.Random(seed)
         queries = some_queries(chance, chance.choice([0, 1, 64, 65, 400]))
@@ -67,8 +67,8 @@ class SameAsProgram(Case):
         self.different: list[int] = []
         service = self.served(BOXES, "--tcp", "0")
         for seed in range(40):
-            self.asked(service, seed)
-        with all_of(threading.Thread(target=self.asked, args=(service, seed)) for seed in range(40, 104)):
+            self.check_replies(service, seed)
+        with all_of(threading.Thread(target=self.check_replies, args=(service, seed)) for seed in range(40, 104)):
             pass
         self.assertEqual(self.different, [])
         self.assertEqual(len(service.logs("status=[01] ", 104)), 104)

@@ -37,7 +37,7 @@ class Sockets(Case):
     def test_mode(self) -> None:
         self.assertEqual(self.mode_of(), 0o600)
 
-    def test_mode_that_is_asked_for(self) -> None:
+    def test_mode_of_the_option(self) -> None:
         self.assertEqual(self.mode_of("--mode", "660"), 0o660)
 
     def test_a_path_that_was_left(self) -> None:

@@ -91,7 +91,7 @@ class Refusals(Mapped):
     def test_lines_at_random(self) -> None:
         """Each is answered as the program does, or isn't asked since it may have too many answers."""
         chance = random.Random(3)
-        asked = refused = 0
+        answered = refused = 0
         for _ in range(250):
             line = random_runs.some_line(chance).decode(errors="ignore")
             reply, body = self.server.get("/ask?q=" + quote(line))
@@ -106,8 +106,8 @@ class Refusals(Mapped):
             last = f"ok 1 {found['total']}" if "total" in found else f"error 1 {found['fault']}"
             self.assertEqual([[*rows, last]], expected, line)
             self.assertLessEqual(len(rows), 1000)
-            asked += 1
-        self.assertGreater(min(asked, refused), 20)
+            answered += 1
+        self.assertGreater(min(answered, refused), 20)
 
 
 class Tables(unittest.TestCase):
