@@ -77,9 +77,9 @@ class Bench:
 
     def write_tables(self):
         """Writes the tables that take long side by side."""
-        wanted = [("even", IDS_BOXES, order) for order in IDS] + [(name, BOXES, "shuffled") for name in TABLES]
+        tables = [("even", IDS_BOXES, order) for order in IDS] + [(name, BOXES, "shuffled") for name in TABLES]
         with ProcessPoolExecutor() as pool:
-            list(pool.map(self.table, *zip(*wanted)))
+            list(pool.map(self.table, *zip(*tables)))
 
     def without_scan(self):
         return {name: path for name, path in self.programs.items() if name != SCAN}
@@ -100,7 +100,7 @@ class Bench:
             for kind, lines in texts.items()
         }
 
-    def asked(self, name, boxes, makes, programs):
+    def measured(self, name, boxes, makes, programs):
         """What a table of shuffled ids costs: the load, the memory, and lines of each kind."""
         table, asker = self.table(name, boxes), kinds.Asker(name, boxes)
         texts = {kind: kinds.lines_of(make, asker) for kind, make in makes.items()}
@@ -115,18 +115,18 @@ class Bench:
 
     def growth(self):
         makes = {kind: kinds.MAIN[kind] for kind in GROWN}
-        return {boxes: self.asked("even", boxes, makes, self.programs) for boxes in SIZES}
+        return {boxes: self.measured("even", boxes, makes, self.programs) for boxes in SIZES}
 
     def lines(self):
         every = dict(kinds.every_kind()) | {("main", kind, "find"): make for kind, make in kinds.MAIN.items()}
-        found = self.asked("even", BOXES, every, self.without_scan())
+        found = self.measured("even", BOXES, every, self.without_scan())
         rows = [{"group": group, "row": row, "column": column, "seconds": seconds}
                 for (group, row, column), seconds in found.pop("lines").items()]
         return {"boxes": BOXES, "rows": rows} | found
 
     def tables(self):
         makes = {name: kinds.OF_EACH | kinds.OF_SOME.get(name, {}) for name in TABLES}
-        found = {name: self.asked(name, BOXES, makes[name], self.without_scan()) for name in TABLES}
+        found = {name: self.measured(name, BOXES, makes[name], self.without_scan()) for name in TABLES}
         return {"boxes": BOXES, "tables": found}
 
     def ids(self):

@@ -36,9 +36,9 @@ def instructions(programs, folder):
         path = Path(folder, f"counted.{at}")
         path.write_text("".join(f"{line}\n" for line in lines))
         files[name] = path, len(lines)
-    wanted = [(kind, name) for name in programs if name != SCAN for kind in files]
+    pairs = [(kind, name) for name in programs if name != SCAN for kind in files]
     with ThreadPoolExecutor() as pool:
-        runs = dict(zip(wanted, pool.map(lambda it: counted(programs[it[1]], table, files[it[0]][0]), wanted)))
+        runs = dict(zip(pairs, pool.map(lambda it: counted(programs[it[1]], table, files[it[0]][0]), pairs)))
     rows = {kind: {} for kind in files}
     for (kind, name), total in runs.items():
         load = runs["a record", name]

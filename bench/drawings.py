@@ -4,7 +4,7 @@ from charts import Dots, Panel
 from kinds import ALL, NEAREST, QUARTER, WINDOW
 from programs import OURS, SCAN
 from svg import svg
-from words import bytes_told, count_on_axis, count_told, time_told
+from words import bytes_text, count_on_axis, count_text, time_text
 
 WIDTH, HEIGHT = 440, 290  # of a panel with what stands round it
 
@@ -18,7 +18,7 @@ def grid(title, panels, columns=2):
     return svg(columns * WIDTH, rows * HEIGHT, title, parts)
 
 
-def over_boxes(growth, title, value, tell_up=time_told, note="processor time"):
+def over_boxes(growth, title, value, tell_up=time_text, note="processor time"):
     """What a value of each program is over the number of boxes."""
     lines = {}
     for boxes, found in growth.items():
@@ -40,7 +40,7 @@ def grown(growth):
     """How cost grows."""
     return grid("Cost over the number of boxes, for rtfilter and others", [
         of_load(growth),
-        over_boxes(growth, "Memory", lambda found, name: found["loaded"][name]["most"], bytes_told, "most while it loads"),
+        over_boxes(growth, "Memory", lambda found, name: found["loaded"][name]["most"], bytes_text, "most while it loads"),
         of_line(growth, "Time of a window with about 20 boxes", WINDOW),
         of_line(growth, "Time of the 10 nearest boxes", NEAREST),
         of_line(growth, "Time of a count of a quarter of all boxes", QUARTER),
@@ -63,8 +63,8 @@ def by_table(found):
         rows = groups[table] = {}
         for name, seconds in [("load", it["load"]), *it["lines"].items()]:
             ours = seconds[OURS]
-            rows[name] = time_told(ours), {other: time / ours for other, time in seconds.items() if other != OURS}
-    title = f"Other indexes beside rtfilter, by how {count_told(found['boxes'])} boxes lie and what is asked"
+            rows[name] = time_text(ours), {other: time / ours for other, time in seconds.items() if other != OURS}
+    title = f"Other indexes beside rtfilter, by how {count_text(found['boxes'])} boxes lie and what is asked"
     dots = Dots(title, groups, 2 * WIDTH)
     return svg(dots.width, dots.height, title, dots.draw())
 
@@ -73,7 +73,7 @@ def in_process(found):
     """How many times librtfilter's time the libraries of the others take in one process."""
     def row(seconds):
         ours = seconds[OURS]
-        return time_told(ours), {name: seconds[name] / ours for name in found["open"] if name != OURS and name in seconds}
+        return time_text(ours), {name: seconds[name] / ours for name in found["open"] if name != OURS and name in seconds}
 
     threads = {f"{count} thread{'s' if count != '1' else ''}": row(it) for count, it in found["threads"].items()}
     groups = {
@@ -81,7 +81,7 @@ def in_process(found):
         "a table": {"open from arrays": row(found["open"])},
         "windows": threads,
     }
-    title = f"Other libraries beside librtfilter, in one process, over {count_told(found['boxes'])} boxes"
+    title = f"Other libraries beside librtfilter, in one process, over {count_text(found['boxes'])} boxes"
     dots = Dots(title, groups, 2 * WIDTH)
     return svg(dots.width, dots.height, title, dots.draw())
 
@@ -111,14 +111,14 @@ def elsewhere(found, growth):
     queries = {names.get(name, name): by_number(line) for name, line in found["queries"].items()}
     meetings = [meeting(queries[OURS], line) for line in queries.values() if line is not queries[OURS]]
     loads = {int(boxes): it["load"][OURS] for boxes, it in growth.items()}
-    whole = f"A whole run over {count_told(found['boxes'])} boxes"
+    whole = f"A whole run over {count_text(found['boxes'])} boxes"
     return grid("Whole runs by how many queries they ask, and the change of one box", [
         Panel(
-            whole, "windows in the run", count_on_axis, time_told, queries,
+            whole, "windows in the run", count_on_axis, time_text, queries,
             "left of a ring, another is faster", [it for it in meetings if it],
         ),
         Panel(
-            "A change: until one moved box is seen", "boxes", count_on_axis, time_told,
+            "A change: until one moved box is seen", "boxes", count_on_axis, time_text,
             {f"{OURS}: rtfilter: loads all": loads, "SQLite's R*Tree: SQLite: UPDATE": by_number(found["changes"])},
             "rtfilter has no updates: it loads the whole table again",
         ),

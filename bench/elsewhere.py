@@ -52,10 +52,10 @@ def few_queries(programs, table, database, folder):
         words[IN_FILE] = [shutil.which("sqlite3"), str(database)]
     took = {name: {} for name in words}
     for count in QUERIES:
-        asked = [lines[at % len(lines)] for at in range(count)]
+        some = [lines[at % len(lines)] for at in range(count)]
         ours, theirs = Path(folder, "few"), Path(folder, "few.sql")
-        ours.write_text("".join(f"{line}\n" for line in asked))
-        theirs.write_text("".join(SELECT.format(*line.split()[2:]) + "\n" for line in asked))
+        ours.write_text("".join(f"{line}\n" for line in some))
+        theirs.write_text("".join(SELECT.format(*line.split()[2:]) + "\n" for line in some))
         for _ in range(RUNS):
             for name, command in words.items():
                 before = 0 if count == 1 else took[name].get(count // 10, LONGEST)

@@ -12,7 +12,7 @@ from programs import ROOT
 PACKAGES = "g++", "libboost-dev", "libgeos++-dev", "libspatialindex-dev", "libsqlite3-dev", "valgrind"
 
 
-def told_by(*words):
+def output_of(*words):
     """What a command prints, in one line; nothing where it isn't there or fails."""
     try:
         return subprocess.run(words, cwd=ROOT, capture_output=True, text=True, check=True).stdout.strip()
@@ -24,7 +24,7 @@ def machine():
     """The machine, and what was compared on it."""
     names = re.findall(r"^model name\s*:\s*(.*)$", Path("/proc/cpuinfo").read_text(), re.MULTILINE)
     memory = int(re.search(r"MemTotal:\s+(\d+)", Path("/proc/meminfo").read_text())[1]) * 1024
-    versions = {name: told_by("dpkg-query", "-W", "-f", "${Version}", name) for name in PACKAGES}
+    versions = {name: output_of("dpkg-query", "-W", "-f", "${Version}", name) for name in PACKAGES}
     return {
         "processor": names[0] if names else platform.machine(),
         "cores": os.cpu_count(),
@@ -32,7 +32,7 @@ def machine():
         "kernel": platform.release(),
         "load": os.getloadavg()[0],
         "date": time.strftime("%Y-%m-%d"),
-        "commit": told_by("git", "rev-parse", "--short", "HEAD"),
+        "commit": output_of("git", "rev-parse", "--short", "HEAD"),
         "versions": {name: version for name, version in versions.items() if version},
     }
 

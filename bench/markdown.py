@@ -6,7 +6,7 @@ import in_process
 from kinds import FORMS, LIMITS, MAIN, REGIONS
 from machine import sentence
 from programs import OURS
-from words import bytes_told, count_told, ratio_told, time_told
+from words import bytes_text, count_text, ratio_text, time_text
 
 # What is told of the memory: when it was looked at, and what of it.
 MEMORY = {
@@ -27,15 +27,15 @@ def beside(seconds, name):
     """A time, and how many times rtfilter's it is."""
     if name not in seconds:
         return ""
-    told = time_told(seconds[name])
-    return told if name == OURS else f"{told} ({ratio_told(seconds[name] / seconds[OURS])})"
+    cell = time_text(seconds[name])
+    return cell if name == OURS else f"{cell} ({ratio_text(seconds[name] / seconds[OURS])})"
 
 
 def beside_fastest(seconds):
     """rtfilter's time, and how many times that the fastest of the others took."""
     others = [value for name, value in seconds.items() if name != OURS]
-    told = time_told(seconds[OURS])
-    return f"{told} ({ratio_told(min(others) / seconds[OURS])})" if others else told
+    cell = time_text(seconds[OURS])
+    return f"{cell} ({ratio_text(min(others) / seconds[OURS])})" if others else cell
 
 
 # ---- each table
@@ -58,12 +58,12 @@ def peers(found, cell=beside, with_memory=True):
     rows += [[kind, *(cell(main[kind]["find"], name) for name in names)] for kind in MAIN]
     if with_memory:
         for title, (when, what) in MEMORY.items():
-            rows.append([f"memory: {title}", *(bytes_told(lines[when][name][what]) for name in names)])
-    return table([f"over {count_told(lines['boxes'])} boxes", *names], rows)
+            rows.append([f"memory: {title}", *(bytes_text(lines[when][name][what]) for name in names)])
+    return table([f"over {count_text(lines['boxes'])} boxes", *names], rows)
 
 
 def short_peers(found):
-    return peers(found, lambda seconds, name: time_told(seconds[name]), with_memory=False)
+    return peers(found, lambda seconds, name: time_text(seconds[name]), with_memory=False)
 
 
 def regions(found):
@@ -91,7 +91,7 @@ def tables(found):
     for name, one in it["tables"].items():
         for kind, seconds in [("load", one["load"]), *one["lines"].items()]:
             rows.append([f"{name}: {kind}", *(beside(seconds, program) for program in names)])
-    return table([f"over {count_told(it['boxes'])} boxes", *names], rows)
+    return table([f"over {count_text(it['boxes'])} boxes", *names], rows)
 
 
 def growth(found):
@@ -101,26 +101,26 @@ def growth(found):
     rows = []
     for name in names:
         rows.append([f"{name}: load", *(beside(it["load"], name) for it in sizes.values())])
-        rows.append([f"{name}: most memory", *(bytes_told(it["loaded"][name]["most"]) for it in sizes.values())])
+        rows.append([f"{name}: most memory", *(bytes_text(it["loaded"][name]["most"]) for it in sizes.values())])
         rows += [[f"{name}: {kind}", *(beside(it["lines"][kind], name) for it in sizes.values())] for kind in kinds]
-    return table(["boxes", *(count_told(int(boxes)) for boxes in sizes)], rows)
+    return table(["boxes", *(count_text(int(boxes)) for boxes in sizes)], rows)
 
 
 def largest(found):
     """The largest table of the growth: loads and memory."""
     boxes, it = list(found["growth"].items())[-1]
     rows = [
-        [name, beside(it["load"], name), *(bytes_told(it[when][name][what]) for when, what in MEMORY.values())]
+        [name, beside(it["load"], name), *(bytes_text(it[when][name][what]) for when, what in MEMORY.values())]
         for name in it["load"]
     ]
-    return table([f"over {count_told(int(boxes))} boxes", "load", *MEMORY], rows)
+    return table([f"over {count_text(int(boxes))} boxes", "load", *MEMORY], rows)
 
 
 def ids(found):
     it = found["ids"]
     names = list(next(iter(it["rows"].values()))["load"])
     rows = [
-        [order, *(beside(row["load"], name) for name in names), bytes_told(row["loaded"][OURS]["most"]),
+        [order, *(beside(row["load"], name) for name in names), bytes_text(row["loaded"][OURS]["most"]),
          beside_fastest(row["find all"])]
         for order, row in it["rows"].items()
     ]
@@ -130,7 +130,7 @@ def ids(found):
 def loads(found):
     """The table of docs/tables.md."""
     rows = [
-        [order, time_told(row["load"][OURS]), bytes_told(row["loaded"][OURS]["most"])]
+        [order, time_text(row["load"][OURS]), bytes_text(row["loaded"][OURS]["most"])]
         for order, row in found["ids"]["rows"].items()
     ]
     return table(["ids", "load", "memory of the whole process"], rows)
@@ -141,31 +141,31 @@ def instructions(found):
     names = list(next(iter(it["lines"].values())))
     rows = []
     for kind, counts in it["lines"].items():
-        told = {name: f"{count:,.0f} ({ratio_told(count / counts[OURS])})" for name, count in counts.items()}
-        told[OURS] = f"{counts[OURS]:,.0f}"
-        rows.append([kind, *(told.get(name, "") for name in names)])
-    return table([f"instructions, over {count_told(it['boxes'])} boxes", *names], rows)
+        cells = {name: f"{count:,.0f} ({ratio_text(count / counts[OURS])})" for name, count in counts.items()}
+        cells[OURS] = f"{counts[OURS]:,.0f}"
+        rows.append([kind, *(cells.get(name, "") for name in names)])
+    return table([f"instructions, over {count_text(it['boxes'])} boxes", *names], rows)
 
 
 def queries(found):
     it = found["elsewhere"]
     counts = list(dict.fromkeys(count for line in it["queries"].values() for count in line))
     rows = [
-        [name, *(time_told(line[count]) if count in line else "" for count in counts)]
+        [name, *(time_text(line[count]) if count in line else "" for count in counts)]
         for name, line in it["queries"].items()
     ]
-    head = [f"windows, over {count_told(it['boxes'])} boxes", *(count_told(int(count)) for count in counts)]
+    head = [f"windows, over {count_text(it['boxes'])} boxes", *(count_text(int(count)) for count in counts)]
     return table(head, rows)
 
 
 def changes(found):
     sizes, changed = found["growth"], found["elsewhere"]["changes"]
-    one = (time_told(changed[boxes]) if boxes in changed else "" for boxes in sizes)
+    one = (time_text(changed[boxes]) if boxes in changed else "" for boxes in sizes)
     rows = [
-        ["rtfilter, a load", *(time_told(it["load"][OURS]) for it in sizes.values())],
+        ["rtfilter, a load", *(time_text(it["load"][OURS]) for it in sizes.values())],
         ["SQLite's R*Tree in memory, one `UPDATE`", *one],
     ]
-    return table(["boxes", *(count_told(int(boxes)) for boxes in sizes)], rows)
+    return table(["boxes", *(count_text(int(boxes)) for boxes in sizes)], rows)
 
 
 def calls(found):
@@ -177,19 +177,19 @@ def calls(found):
         [kind, *(beside(seconds, name) for name in (OURS, many, *names))] for kind, seconds in it["queries"].items()
     ]
     rows.append(["open from arrays", beside(it["open"], OURS), "", *(beside(it["open"], name) for name in names)])
-    memory = {name: f"{bytes_told(count)} ({ratio_told(count / it['memory'][OURS])})" for name, count in it["memory"].items()}
-    rows.append(["memory, opened", bytes_told(it["memory"][OURS]), "", *(memory[name] for name in names)])
+    memory = {name: f"{bytes_text(count)} ({ratio_text(count / it['memory'][OURS])})" for name, count in it["memory"].items()}
+    rows.append(["memory, opened", bytes_text(it["memory"][OURS]), "", *(memory[name] for name in names)])
     for count, seconds in it["threads"].items():
         title = f"windows, {count} thread{'s' if count != '1' else ''}"
         rows.append([title, beside(seconds, OURS), "", *(beside(seconds, name) for name in names)])
-    head = [f"over {count_told(it['boxes'])} boxes", OURS, f"{OURS}, {in_process.FORMS[many]}", *names]
+    head = [f"over {count_text(it['boxes'])} boxes", OURS, f"{OURS}, {in_process.FORMS[many]}", *names]
     return table(head, rows)
 
 
 def forms(found):
     """librtfilter by queries in numbers and by lines."""
     it = found["library"]
-    return table([f"over {count_told(it['boxes'])} boxes", *in_process.FORMS.values()], [
+    return table([f"over {count_text(it['boxes'])} boxes", *in_process.FORMS.values()], [
         [kind, *(beside(seconds, name) for name in in_process.FORMS)] for kind, seconds in it["queries"].items()
     ])
 

@@ -152,8 +152,8 @@ def find_each_c(boxes):
     pointers = [ctypes.c_void_p(it.ctypes.data) for it in columns]
     assert library.rtfilter_open_arrays(ctypes.byref(session), ctypes.c_size_t(len(boxes)), *pointers, None, None, None) == 0
     windows = windows_of(WINDOWS, len(boxes))
-    asked = arrays.Queries(Window, [windows[:, at] for at in (0, 2, 1, 3)], None, None, None)
-    queries = numpy.concatenate([numpy.frombuffer(part.tobytes(), f"V{arrays.QUERY.itemsize}") for _, part in asked.parts()])
+    packed = arrays.Queries(Window, [windows[:, at] for at in (0, 2, 1, 3)], None, None, None)
+    queries = numpy.concatenate([numpy.frombuffer(part.tobytes(), f"V{arrays.QUERY.itemsize}") for _, part in packed.parts()])
     ids, ends = numpy.empty(40 * WINDOWS, "i8"), numpy.empty(WINDOWS, "u8")
     answers = Answers(ids.ctypes.data, None, len(ids), ends.ctypes.data, 0, 0)
     call = Call(queries.ctypes.data, WINDOWS, None, 0)
@@ -405,11 +405,11 @@ def main():
             continue
         first, sums = None, set()
         for case in cases:
-            taken, told = run_alone(name, case, args.boxes)
+            taken, kept = run_alone(name, case, args.boxes)
             if taken is None:
-                print(f"| {name} | {case} | not had: {told} | |", flush=True)
+                print(f"| {name} | {case} | not had: {kept} | |", flush=True)
                 continue
-            sums |= {told} - {None}
+            sums |= {kept} - {None}
             first = first or taken
             times = "" if isinstance(taken, list) or taken is first else f"{taken / first:.2f}"
             print(f"| {name} | {case} | {shown(taken)} | {times} |", flush=True)

@@ -86,7 +86,7 @@ def in_one_process(boxes, tables, queries):
     return found, counts, near
 
 
-def over_workers(boxes, tables, queries, workers, wanted):
+def over_workers(boxes, tables, queries, workers, expected):
     """Whether dask's workers answer the same, with one of them killed in the middle of the last call."""
     import dask
     import dask.dataframe
@@ -102,16 +102,16 @@ def over_workers(boxes, tables, queries, workers, wanted):
         frame = dask.dataframe.from_delayed(frames, meta=boxes_of(0, 1, 0))
         parts = max(workers, 2 * tables)
         held = timed("partitioned and loaded", boxes, lambda: Boxes(spatial_shuffle(frame, parts)), clock)
-        asked = dask.dataframe.from_pandas(queries, npartitions=2 * workers)
-        (places, ids), counts, near = wanted
-        found = timed("a window", len(queries), lambda: held.query(asked[SIDES]).compute(), clock)
+        partitioned = dask.dataframe.from_pandas(queries, npartitions=2 * workers)
+        (places, ids), counts, near = expected
+        found = timed("a window", len(queries), lambda: held.query(partitioned[SIDES]).compute(), clock)
         same = equal(found, places, id=ids)
-        same &= timed("a count", len(queries), lambda: held.count(asked[SIDES]).compute(), clock).tolist() == counts.tolist()
-        nearest = timed(f"the nearest {K}", len(queries), lambda: held.nearest(asked[["x", "y"]], K).compute(), clock)
+        same &= timed("a count", len(queries), lambda: held.count(partitioned[SIDES]).compute(), clock).tolist() == counts.tolist()
+        nearest = timed(f"the nearest {K}", len(queries), lambda: held.nearest(partitioned[["x", "y"]], K).compute(), clock)
         same &= equal(nearest, near[0], id=near[1], score=near[2])
         print(f"memory of a worker: {max(client.run(memory).values()) / 2**20:.0f} MB", flush=True)
         threading.Timer(0.2, os.kill, [next(iter(pids.values())), signal.SIGKILL]).start()
-        again = timed("a window, while a worker is killed", len(queries), lambda: held.query(asked[SIDES]).compute(), time.monotonic)
+        again = timed("a window, while a worker is killed", len(queries), lambda: held.query(partitioned[SIDES]).compute(), time.monotonic)
         return same & equal(again, places, id=ids)
 
 
@@ -134,8 +134,8 @@ def main():
     parser.add_argument("--queries", type=int, default=100_000, metavar="Q", help="queries of each kind (default 100,000)")
     args = parser.parse_args()
     queries = queries_of(args.queries, args.boxes)
-    wanted = in_one_process(args.boxes, args.tables, queries)
-    if args.workers and not over_workers(args.boxes, args.tables, queries, args.workers, wanted):
+    expected = in_one_process(args.boxes, args.tables, queries)
+    if args.workers and not over_workers(args.boxes, args.tables, queries, args.workers, expected):
         print("the answers differ")
         return 1
     print("the answers are the same" if args.workers else "dask was left out")

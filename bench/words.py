@@ -15,17 +15,17 @@ TIMES = (1e-6, "µs"), (1e-3, "ms"), (1, "s")
 BYTES = (1e3, "kB"), (1e6, "MB"), (1e9, "GB")
 
 
-def time_told(seconds):
+def time_text(seconds):
     value, unit = scaled(seconds * (1 + 1e-9), TIMES)
     return f"{value:g} {unit}" if is_power(seconds) else f"{digits(value)} {unit}"
 
 
-def bytes_told(count):
+def bytes_text(count):
     value, unit = scaled(count * (1 + 1e-9), BYTES)
     return f"{value:.0f} {unit}" if is_power(count) or value >= 10 else f"{value:.1f} {unit}"
 
 
-def count_told(count):
+def count_text(count):
     return f"{count:,}"
 
 
@@ -37,7 +37,7 @@ def count_on_axis(number):
     return str(number)
 
 
-def ratio_told(value):
+def ratio_text(value):
     return f"{value:.2f}" if value < 1 else f"{value:.1f}" if value < 10 else f"{value:,.0f}"
 
 

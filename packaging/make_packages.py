@@ -85,8 +85,8 @@ def main() -> None:
     if version != newest:
         sys.exit(f"make_packages: VERSION is {version}, and CHANGELOG.md begins with {newest}")
     os.umask(0o022)
-    with tempfile.TemporaryDirectory() as room:
-        tree = Path(room, f"rtfilter-{version}")
+    with tempfile.TemporaryDirectory() as scratch:
+        tree = Path(scratch, f"rtfilter-{version}")
         for name in SOURCES:
             place(ROOT / name, tree / name)
         place(args.program, tree / "rtfilter")
@@ -102,7 +102,7 @@ def main() -> None:
         )
         if done.returncode:
             sys.exit(f"make_packages: {done.stdout}")
-        for package in sorted(Path(room).glob("*.deb")):
+        for package in sorted(Path(scratch).glob("*.deb")):
             print(shutil.copy(package, args.folder))
 
 

@@ -124,8 +124,8 @@ def main() -> int:
     sources = [it for it in sorted((PACKAGE / "rtfilter").rglob("*")) if it.suffix in SUFFIXES]
     files = {path.relative_to(PACKAGE).as_posix(): File(path.read_bytes()) for path in sources}
     try:
-        with tempfile.TemporaryDirectory() as room:
-            files[EXTENSION] = stripped(built(args.library, Path(room)))
+        with tempfile.TemporaryDirectory() as scratch:
+            files[EXTENSION] = stripped(built(args.library, Path(scratch)))
         files[f"{data}/scripts/rtfilter"] = stripped(args.program)
         files[f"{data}/data/lib/rtfilter/rtfilter-prefork.so"] = stripped(args.prefork)
     except ValueError as error:

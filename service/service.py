@@ -112,7 +112,7 @@ class Service:
             table_generation=0, loads_failed_total=0,
         )  # fmt: skip
         descriptors, _ = resource.getrlimit(resource.RLIMIT_NOFILE)
-        self._room = descriptors - min(RESERVED, descriptors // 2)  # for connections
+        self._most_connections = descriptors - min(RESERVED, descriptors // 2)  # for connections
         self._last_complaint = -BETWEEN_COMPLAINTS
         self._pause = FIRST_PAUSE
         self._status = NO_SERVICE  # where the first table isn't loaded
@@ -299,7 +299,7 @@ class Service:
         """Accepts a connection. A lack of descriptors is logged now and then, and it is tried again after a pause."""
         loop = asyncio.get_running_loop()
         try:
-            if self._counts["connections"] >= self._room:
+            if self._counts["connections"] >= self._most_connections:
                 raise OSError(errno.EMFILE, os.strerror(errno.EMFILE))
             loop.create_task(self._serve(*listener.accept()))  # what that waits for keeps it
         except (BlockingIOError, ConnectionAbortedError):  # it has been closed meanwhile

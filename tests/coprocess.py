@@ -46,17 +46,17 @@ class Differs(Exception):
     """What isn't as expected."""
 
 
-def same(name, found, wanted):
-    if found != wanted:
-        raise Differs(f"{name}\n  expected {wanted!s:.300}\n  found    {found!s:.300}")
+def same(name, found, expected):
+    if found != expected:
+        raise Differs(f"{name}\n  expected {expected!s:.300}\n  found    {found!s:.300}")
 
 
 @functools.lru_cache(None)
 def reply(line):
     """The reply to a line, with a word in the place of its number, and whether the line is faulty."""
-    told, bad = reading.reply(BOXES, FANOUT, 0, line)
-    told[-1:] = [last.replace(b" 0", b" NUMBER", 1) for last in told[-1:]]
-    return b"".join(it + b"\n" for it in told), bad
+    lines, bad = reading.reply(BOXES, FANOUT, 0, line)
+    lines[-1:] = [last.replace(b" 0", b" NUMBER", 1) for last in lines[-1:]]
+    return b"".join(it + b"\n" for it in lines), bad
 
 
 class Held:
@@ -85,12 +85,12 @@ class Held:
         while text:
             text = text[self.process.stdin.write(text):]
 
-    def wanted(self, line):
+    def next_reply(self, line):
         """The reply to the next line."""
         self.lines += 1
-        told, bad = reply(line)
+        answer, bad = reply(line)
         self.bad |= bad
-        return told.replace(b"NUMBER", b"%d" % self.lines)
+        return answer.replace(b"NUMBER", b"%d" % self.lines)
 
     def comes(self, seconds):
         return bool(select.select([self.process.stdout], [], [], seconds)[0])
@@ -105,8 +105,8 @@ class Held:
             found += piece
         return found
 
-    def expect(self, wanted):
-        same(f"after line {self.lines}", self.read(len(wanted)), wanted)
+    def expect(self, expected):
+        same(f"after line {self.lines}", self.read(len(expected)), expected)
 
     def expect_nothing(self, seconds=A_WHILE):
         if self.comes(seconds):
@@ -115,7 +115,7 @@ class Held:
     def ask(self, line):
         """Writes a line, and reads its reply."""
         self.write(line + b"\n")
-        self.expect(self.wanted(line))
+        self.expect(self.next_reply(line))
 
     def expect_end(self, status, output, error):
         """What the process leaves when it ends by itself."""
@@ -123,8 +123,8 @@ class Held:
             found = self.process.wait(TOO_LONG)
         except subprocess.TimeoutExpired:
             found = "no end"
-        told = self.process.stdout.read() if self.process.stdout else b""
-        same("the end", (found, told, self.process.stderr.read()), (status, output, error))
+        written = self.process.stdout.read() if self.process.stdout else b""
+        same("the end", (found, written, self.process.stderr.read()), (status, output, error))
 
     def close(self, output=b""):
         """Closes the input, after which it ends with the status of its lines."""
@@ -157,7 +157,7 @@ def lines_in_two_writes(start):
             if chance.random() < 0.01:
                 held.expect_nothing()
             held.write(whole[end:])
-            held.expect(held.wanted(line))
+            held.expect(held.next_reply(line))
         held.close()
 
 
@@ -172,7 +172,7 @@ def several_lines_in_one_write(start):
             text = b"".join(line + b"\n" for line in some)
             ahead = chance.randint(0, len(lines[0])) if lines else 0
             held.write(text[begun:] + (lines[0][:ahead] if lines else b""))
-            held.expect(b"".join(map(held.wanted, some)))
+            held.expect(b"".join(map(held.next_reply, some)))
             begun = ahead
         held.close()
 
@@ -181,10 +181,10 @@ def more_answers_than_a_pipe_holds(start):
     """The process waits where nobody reads, and goes on where somebody does."""
     lines = [b"find all"] * 400
     with start() as held:
-        wanted = b"".join(map(held.wanted, lines))
+        expected = b"".join(map(held.next_reply, lines))
         held.write(b"find all\n" * 400)
         time.sleep(0.1)
-        held.expect(wanted)
+        held.expect(expected)
         held.ask(b"count all")
         held.close()
 
@@ -213,7 +213,7 @@ def a_line_that_does_not_end(start):
 
 def closed_input(start):
     """Whatever stands behind the last line feed is answered at the end."""
-    for asked, behind, status, told in (
+    for line, behind, status, output in (
         (b"count all", b"", 0, b""),
         (b"x", b"", 1, b""),
         (b"count all", b"count all", 0, b"ok 2 %d\n" % COUNT),
@@ -222,11 +222,11 @@ def closed_input(start):
         (b"count all", b"a" * 5000, 1, TOO_LONG_A_LINE % 2),
     ):
         with start() as held:
-            held.ask(asked)
+            held.ask(line)
             held.write(behind)
             held.expect_nothing()
             held.process.stdin.close()
-            held.expect_end(status, told, b"")
+            held.expect_end(status, output, b"")
     with start() as held:
         held.close()
 
@@ -258,7 +258,7 @@ def input_that_breaks(start):
         ours, theirs = socket.socketpair()
         with ours, theirs, start(stdin=theirs) as held:
             ours.sendall(b"count all\nx\n")
-            held.expect(held.wanted(b"count all") + held.wanted(b"x"))
+            held.expect(held.next_reply(b"count all") + held.next_reply(b"x"))
             ours.sendall(behind)
             # a socket that is closed with bytes unread is reset
             theirs.sendall(b"unread")
@@ -283,7 +283,7 @@ def stopped_and_continued(start):
             held.process.send_signal(signal.SIGSTOP)
             held.write(b"find all\n" * 20)
             held.process.send_signal(signal.SIGCONT)
-            held.expect(b"".join(map(held.wanted, [b"find all"] * 20)))
+            held.expect(b"".join(map(held.next_reply, [b"find all"] * 20)))
         held.close()
 
 

@@ -177,12 +177,12 @@ def planted(first, folder, plant):
 def main():
     os.nice(5)
     passed = failed = 0
-    with tempfile.TemporaryDirectory(prefix="rtfilter-edits-tried-") as room:
-        first = Path(room, "first")
+    with tempfile.TemporaryDirectory(prefix="rtfilter-edits-tried-") as scratch:
+        first = Path(scratch, "first")
         make_crate(first)
         subprocess.run(["rt", "check"], cwd=first / "crates" / NAME, stdin=subprocess.DEVNULL, stdout=subprocess.DEVNULL, check=True)
         with ThreadPoolExecutor(2) as pool:
-            results = [(it, pool.submit(planted, first, Path(room, f"planted-{at}"), it)) for at, it in enumerate(PLANTS)]
+            results = [(it, pool.submit(planted, first, Path(scratch, f"planted-{at}"), it)) for at, it in enumerate(PLANTS)]
             refused = [(it[0], future.result()) for it, future in results]
         add_edits(first, EDITS)
         found = faults(EDITS, *run(first))

@@ -89,10 +89,10 @@ def rare_lines(count):
     box, levels = count // 2, 1
     while FANOUT**levels < count:
         levels += 1
-    asked = FORMS % (RARE, LOW, HIGH, RARE, RARE, RARE) * LINES
-    told = (b"ok %d 1\n%d 0\nok %d 1\n%d %d\nok %d 1\nok %d %d\n"
+    lines = FORMS % (RARE, LOW, HIGH, RARE, RARE, RARE) * LINES
+    expected = (b"ok %d 1\n%d 0\nok %d 1\n%d %d\nok %d 1\nok %d %d\n"
             % (at, box, at + 1, box, box**2, at + 2, at + 3, levels) for at in range(1, 4 * LINES, 4))
-    return asked, b"".join(told)
+    return lines, b"".join(expected)
 
 
 def nearest_lines(count):
@@ -100,12 +100,12 @@ def nearest_lines(count):
     at_size, half = pow(STEP, -1, count), count // 2
     largest = (count - 1) * at_size % count
     boxes = [b"%d %d\n" % ((count - away) * at_size % count, away**2) for away in range(1, count + 1)]
-    asked = b"find all near %d 0\nnearest %d %d 0\n" % (count, half, count)
-    asked += b"nearest 1 %d 0\n" % count * AGAIN + b"find window %d %d 0 0\n" % (count - 1, count) * AGAIN
-    told = [*boxes, b"ok 1 %d\n" % count, *boxes[:half], b"ok 2 %d\n" % half]
-    told += (b"%d 1\nok %d 1\n" % (largest, at) for at in range(3, 3 + AGAIN))
-    told += (b"%d 0\nok %d 1\n" % (largest, at) for at in range(3 + AGAIN, 3 + 2 * AGAIN))
-    return asked, b"".join(told)
+    lines = b"find all near %d 0\nnearest %d %d 0\n" % (count, half, count)
+    lines += b"nearest 1 %d 0\n" % count * AGAIN + b"find window %d %d 0 0\n" % (count - 1, count) * AGAIN
+    expected = [*boxes, b"ok 1 %d\n" % count, *boxes[:half], b"ok 2 %d\n" % half]
+    expected += (b"%d 1\nok %d 1\n" % (largest, at) for at in range(3, 3 + AGAIN))
+    expected += (b"%d 0\nok %d 1\n" % (largest, at) for at in range(3 + AGAIN, 3 + 2 * AGAIN))
+    return lines, b"".join(expected)
 
 
 # Points on a grid, so far apart, and lines of every kind that each have to do with a few of them, near one place: so many
@@ -151,11 +151,11 @@ def lines_of_every_kind(program, table):
     """Lines of every kind, and their replies: what one line of the kind is told, which is tested elsewhere, each with its
     number. Of the kinds the last two have no reply."""
     once = answers(program, table, "".join(f"{line}\n" for line in KINDS).encode())[0] or b""
-    told = re.findall(rb"((?:-?\d+ \d+\n)*(?:ok|error) )(\d+)( .*\n)", once)
-    replies = (b"%s%d%s" % (before, at, after) for before, kind, after in told
+    parts = re.findall(rb"((?:-?\d+ \d+\n)*(?:ok|error) )(\d+)( .*\n)", once)
+    replies = (b"%s%d%s" % (before, at, after) for before, kind, after in parts
                for at in range((int(kind) - 1) * EACH + 1, int(kind) * EACH + 1))
     lines = "".join(f"{line}\n" * EACH for line in KINDS)
-    return lines.encode(), b"".join(replies) if len(told) == len(KINDS) - 2 else None
+    return lines.encode(), b"".join(replies) if len(parts) == len(KINDS) - 2 else None
 
 
 def answers(program, table, lines):
@@ -177,15 +177,15 @@ def main():
         others = {"a layer of one box": one_of_all, "sizes in no order": in_no_order, "every kind of line": on_a_grid}
         for name, record in [*TABLES.items(), *others.items()]:
             least = write_table(table, record, count)
-            lines, told = b"count all\nfind all first 1\n", b"ok 1 %d\n%d 0\nok 2 1\n" % (count, least)
+            lines, expected = b"count all\nfind all first 1\n", b"ok 1 %d\n%d 0\nok 2 1\n" % (count, least)
             if record == one_of_all:
-                lines, told = rare_lines(count)
+                lines, expected = rare_lines(count)
             if record == in_no_order:
-                lines, told = nearest_lines(count)
+                lines, expected = nearest_lines(count)
             if record == on_a_grid:
-                lines, told = lines_of_every_kind(program, table)
+                lines, expected = lines_of_every_kind(program, table)
             said, seconds = answers(program, table, lines)
-            if said == told:
+            if said == expected:
                 passed += 1
                 print(f"{name}: {seconds:.2f} s")
             else:

@@ -21,7 +21,7 @@ from pathlib import Path
 BOXES = 20000
 SIDE = 10**9  # coordinates are at most so far from 0
 LAYERS = 8
-ROOM = 0.1
+TOLERANCE = 0.1
 
 # The name of each kind of line, with the instructions of one, how many are asked, and the line at a place.
 LOAD = 2111
@@ -126,7 +126,7 @@ def main(program: str, shows: bool) -> int:
     for name, (stored, now) in found.items():
         if shows:
             print(f"{name:32} {now:10}")
-        if abs(now - stored) > ROOM * stored:
+        if abs(now - stored) > TOLERANCE * stored:
             failed += 1
             print(f"{name}: {now} instructions, where {stored} are stored", file=sys.stderr)
     print(f"{len(found) - failed} passed, {failed} failed")

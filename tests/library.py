@@ -152,11 +152,11 @@ class Session:
 
     def find(self, queries, vertices, capacity):
         """The code, and for each query that is answered the ids and scores: found in arrays of this capacity."""
-        asked, points = array(Query, queries), array(Point, vertices)
+        packed, points = array(Query, queries), array(Point, vertices)
         ids, scores, ends = (ctypes.c_int64 * capacity)(), (Score * capacity)(), (ctypes.c_size_t * len(queries))()
         lists, left, first, skip, code = [], [], 0, 0, FULL
         while code == FULL:
-            rest = Queries(address(asked).value + first * ctypes.sizeof(Query), len(queries) - first, address(points), len(points))
+            rest = Queries(address(packed).value + first * ctypes.sizeof(Query), len(queries) - first, address(points), len(points))
             answers = Answers(address(ids), address(scores), capacity, address(ends), 99, 99)
             code = self.library.rtfilter_find(self.at, ctypes.byref(rest), ctypes.c_size_t(skip), ctypes.byref(answers))
             found = [(ids[at], scores[at].low + (scores[at].high << 64)) for at in range(answers.found)]
@@ -170,9 +170,9 @@ class Session:
 
     def measure(self, call, queries, vertices):
         """The code, and the numbers of the queries that are measured."""
-        asked, points = array(Query, queries), array(Point, vertices)
-        together = Queries(address(asked), len(asked), address(points), len(points))
-        measured, done = (ctypes.c_uint64 * len(asked))(), ctypes.c_size_t(99)
+        packed, points = array(Query, queries), array(Point, vertices)
+        together = Queries(address(packed), len(packed), address(points), len(points))
+        measured, done = (ctypes.c_uint64 * len(packed))(), ctypes.c_size_t(99)
         code = self.library[call](self.at, ctypes.byref(together), measured, ctypes.byref(done))
         return code, measured[: done.value]
 
@@ -535,12 +535,12 @@ class Checks:
         for at in range(TABLES):
             _, table = some_sound_table(chance)
             fanout = chance.choice(random_runs.FANOUTS)
-            asked = [words for words in (random_runs.some_query(chance) for _ in range(250)) if words != [b"levels"]]
-            queries = b"".join(b" ".join(words) + b"\n" for words in asked)
+            drawn = [words for words in (random_runs.some_query(chance) for _ in range(250)) if words != [b"levels"]]
+            queries = b"".join(b" ".join(words) + b"\n" for words in drawn)
             vertices, calls = [], {}
             replies = replies_of(self.program_on(table, queries, fanout, f"numbers{at}")[1])
             with of_bytes(self.library, table, fanout=fanout) as session:
-                for words, (answers, is_valid, count) in zip(asked, replies, strict=True):
+                for words, (answers, is_valid, count) in zip(drawn, replies, strict=True):
                     call, query = query_of(words, vertices)
                     calls.setdefault(call, []).append((query, answers if call == "rtfilter_find" else count, is_valid))
                     met[OK if is_valid else BAD_QUERY] += 1

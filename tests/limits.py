@@ -134,10 +134,10 @@ def late_failure(program, table, folder):
     library = folder / "refuse.so"
     subprocess.run(["cc", "-shared", "-fPIC", "-o", library, source], check=True)
     reads = table.stat().st_size // 8192
-    with open(os.devnull, "wb") as told:
+    with open(os.devnull, "wb") as report:
         words = {"REFUSE": "read", "REFUSE_AT": str(reads), "REFUSE_MANY": "1", "REFUSE_AS": "5"}
-        words |= {"REFUSE_TO": str(told.fileno()), "LD_PRELOAD": str(library)}
-        return run(program, [table], COUNT, env={**os.environ, **words}, pass_fds=[told.fileno()])
+        words |= {"REFUSE_TO": str(report.fileno()), "LD_PRELOAD": str(library)}
+        return run(program, [table], COUNT, env={**os.environ, **words}, pass_fds=[report.fileno()])
 
 
 def memory(program, folder):
@@ -165,12 +165,12 @@ def writes(program, folder):
     if shutil.which("strace") is None:
         print("skipped: the sizes of writes, since strace isn't here")
         return
-    told = folder / "writes"
+    log = folder / "writes"
     lines = folder / "all"
     lines.write_bytes(b"find all\n")
-    words = ["strace", "-qq", "-e", "trace=write", "-e", "signal=none", "-o", told, program, folder / "million.csv", lines]
+    words = ["strace", "-qq", "-e", "trace=write", "-e", "signal=none", "-o", log, program, folder / "million.csv", lines]
     out = subprocess.run(words, capture_output=True, timeout=SECONDS).stdout
-    sizes = [int(size) for size in re.findall(r"= (\d+)$", told.read_text(), re.MULTILINE)]
+    sizes = [int(size) for size in re.findall(r"= (\d+)$", log.read_text(), re.MULTILINE)]
     yield "all bytes are written", len(out), sum(sizes)
     yield f"the largest write has {max(sizes)} bytes", True, max(sizes) <= MOST_WRITTEN
     yield f"{len(sizes)} writes for {len(out)} bytes", True, len(sizes) * FEWEST_WRITTEN <= len(out)

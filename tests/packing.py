@@ -134,7 +134,7 @@ def packed(table, fanout):
 # ---- the number of a tree
 
 
-def told(numbers):
+def digest_of(numbers):
     """One number for many, of 64 bits."""
     all_of_them = 0
     for number in numbers:
@@ -164,7 +164,7 @@ def rows():
             for count in sizes(fanout):
                 chance = Chance()
                 table = [entry(place, chance) for place in range(count)]
-                yield kind, fanout, count, told(numbers_of(*packed(table, fanout)))
+                yield kind, fanout, count, digest_of(numbers_of(*packed(table, fanout)))
 
 
 def main():
@@ -179,7 +179,7 @@ def main():
     own = list(rows())
     wrong = [row for row in own if row not in stored] + [row for row in stored if row not in own]
     for kind, fanout, count, number in wrong:
-        print(f"{kind}, fanout {fanout}, {count} entries: {number:#018x} is told by one side alone")
+        print(f"{kind}, fanout {fanout}, {count} entries: {number:#018x} stands on one side alone")
     print(f"{len(own) - len([row for row in own if row not in stored])} passed, {len(wrong)} failed")
     return 1 if wrong else 0
 

@@ -172,8 +172,8 @@ def names_of_the_logic():
 
 def main():
     passed = failed = 0
-    with tempfile.TemporaryDirectory() as room:
-        path, folder = Path(room, "bin"), Path(room, "examples")
+    with tempfile.TemporaryDirectory() as scratch:
+        path, folder = Path(scratch, "bin"), Path(scratch, "examples")
         shutil.copytree(ROOT / "examples/data", folder)
         path.mkdir()
         (path / "rtfilter").symlink_to(Path(sys.argv[1]).resolve())

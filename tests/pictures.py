@@ -314,23 +314,23 @@ def polygon(vertices, scene):
 
 def region(name):
     """The picture of a region with the boxes that it accepts and those that it doesn't."""
-    asked, boxes = SCENES[name]
+    query, boxes = SCENES[name]
     scene = Scene(1, 23, 0, 15)
-    accepts = reading.region(reading.Words(asked.encode())).accepts
+    accepts = reading.region(reading.Words(query.encode())).accepts
     parts = [scene.box(box, YES if accepts(box) else NO) for box in boxes]
-    parts += outline(name, reading.Words(asked.encode()), scene)
+    parts += outline(name, reading.Words(query.encode()), scene)
     return scene.picture(f"Boxes that {name} accepts are drawn solid, the others dashed", parts)
 
 
 def on_layer():
     """The picture of a window on one layer, each box with its layer."""
-    asked, layer, boxes = LAYERED
+    query, layer, boxes = LAYERED
     scene = Scene(1, 23, 0, 15)
-    accepts = reading.asked_boxes(reading.Words(f"{asked} {layer}".encode())).accepts
+    accepts = reading.boxes_region(reading.Words(f"{query} {layer}".encode())).accepts
     parts = [scene.box(box, YES if accepts(box) else NO) for box in boxes]
-    parts += outline("window", reading.Words(asked.encode()), scene)
+    parts += outline("window", reading.Words(query.encode()), scene)
     parts += [scene.label((box[0] + box[1]) / 2, (box[2] + box[3]) / 2, box[4]) for box in boxes]
-    return scene.picture(f"Boxes that {asked} {layer} accepts are drawn solid, the others dashed", parts)
+    return scene.picture(f"Boxes that {query} {layer} accepts are drawn solid, the others dashed", parts)
 
 
 def text(x, y, words, font=SANS, anchor="start"):
@@ -342,8 +342,8 @@ def text(x, y, words, font=SANS, anchor="start"):
 def front():
     """A window over the boxes of examples/data/boxes.csv, the query and its reply."""
     scene = Scene(-7, 32, -7, 17)
-    asked, table = "find window 8 13 3 8", (ROOT / "examples/data/boxes.csv").read_bytes()
-    window = [*map(int, asked.split()[2:])]
+    query, table = "find window 8 13 3 8", (ROOT / "examples/data/boxes.csv").read_bytes()
+    window = [*map(int, query.split()[2:])]
     boxes = reading.boxes(table, False, 100)
     met = {id for id, box in boxes.items() if reading.meet(box[:4], window)}
     parts = []
@@ -352,7 +352,7 @@ def front():
         parts.append(scene.box((left - grown, right + grown, bottom - grown, top + grown), YES if id in met else NO))
         parts.append(scene.label(left + 1.4, top - 1.4, id))
     parts.append(scene.box(window, AREA))
-    lines = [f"$ echo '{asked}' | rtfilter boxes.csv", *(f"{id} 0" for id in sorted(met)), f"ok 1 {len(met)}"]
+    lines = [f"$ echo '{query}' | rtfilter boxes.csv", *(f"{id} 0" for id in sorted(met)), f"ok 1 {len(met)}"]
     parts += [text(390, 90 + 26 * at, line, MONO) for at, line in enumerate(lines)]
     return svg(860, STEP * 24 + 24, "A window that overlaps two of five boxes, the query and its reply", parts)
 
@@ -363,8 +363,8 @@ def sides():
     parts = [scene.box((7, 23, 4, 14), YES)]
     parts += [scene.label(3.4, 9, "min_x"), scene.label(26.6, 9, "max_x"), scene.label(15, 2.4, "min_y"), scene.label(15, 15.6, "max_y")]
     rows = ("rtfilter, SQLite", "min_x, max_x, min_y, max_y"), ("shapely, GeoJSON, PostGIS", "min_x, min_y, max_x, max_y")
-    for at, (who, order) in enumerate(rows):
-        parts += [text(310, 60 + 70 * at, who), text(310, 84 + 70 * at, order, MONO)]
+    for at, (system, order) in enumerate(rows):
+        parts += [text(310, 60 + 70 * at, system), text(310, 84 + 70 * at, order, MONO)]
     return svg(590, STEP * 18 + 24, "A box with its four sides, and two orders in which they are written", parts)
 
 

@@ -311,11 +311,11 @@ def closed(program, words, folder, stream, **streams):
     return run("/bin/sh", shell, folder, stdout=subprocess.PIPE, **streams)
 
 
-def little_memory(program, words, folder, room):
+def little_memory(program, words, folder, memory):
     """A run whose address space has so many bytes, its code included."""
     return run(
         program, words, folder, input=FIND, stdout=subprocess.PIPE,
-        preexec_fn=lambda: resource.setrlimit(resource.RLIMIT_AS, (room, room)),
+        preexec_fn=lambda: resource.setrlimit(resource.RLIMIT_AS, (memory, memory)),
     )
 
 
@@ -334,12 +334,12 @@ def least_memory(program, folder):
     return enough * step
 
 
-def endless_line(program, folder, room):
+def endless_line(program, folder, memory):
     """Whether a run goes on in so many bytes of address space whose queries are one line without an end, and what it
     leaves when it is killed."""
     held = subprocess.Popen(
         [program, "boxes.csv", "/dev/zero"], cwd=folder, stdout=subprocess.PIPE, stderr=subprocess.PIPE,
-        preexec_fn=lambda: resource.setrlimit(resource.RLIMIT_AS, (room, room)),
+        preexec_fn=lambda: resource.setrlimit(resource.RLIMIT_AS, (memory, memory)),
     )
     time.sleep(1)
     is_on = held.poll() is None
@@ -414,13 +414,13 @@ def outcomes(program, folder):
         )
     yield "the examples", *example(program)
     least = least_memory(program, folder)
-    for name, words, room in (
+    for name, words, memory in (
         ("no memory to begin with", ["boxes.csv"], -4 * resource.getpagesize()),
         ("no memory for the table beside a file of queries", [LONG_NAME, "lines"], 1_000_000),
         ("no memory for a record", ["/dev/zero"], 10_000_000),
-        *((f"no memory for the table in {room} bytes", [LONG_NAME], room) for room in range(0, 20_000_001, 2_500_000)),
+        *((f"no memory for the table in {memory} bytes", [LONG_NAME], memory) for memory in range(0, 20_000_001, 2_500_000)),
     ):
-        yield name, (6, b"", NO_MEMORY), little_memory(program, words, folder, least + room)
+        yield name, (6, b"", NO_MEMORY), little_memory(program, words, folder, least + memory)
     for name, words, output in (
         ("no more memory for many lines", ["boxes.csv", "lines"], b"1 0\n3 0\nok 6000001 2\n"),
         ("no more memory for a long line", ["boxes.csv", "letters"], b"error 1 Q1 line too long\n1 0\n2 0\nok 2 2\n"),

@@ -216,8 +216,8 @@ BAD_LISTS += [b"64", b"0,64,1", b"-1", b"64,x", b"64,", b"256", b"18446744073709
 
 def some_list(chance):
     """A list of layers, now and then with one of them twice."""
-    asked = chance.choices([0, 0, 1, 1, 5, 63, chance.randint(0, 63)], k=chance.choice([1, 1, 1, 2, 3, 8]))
-    return b",".join(written(chance, layer) for layer in asked)
+    chosen = chance.choices([0, 0, 1, 1, 5, 63, chance.randint(0, 63)], k=chance.choice([1, 1, 1, 2, 3, 8]))
+    return b",".join(written(chance, layer) for layer in chosen)
 
 
 def some_on(chance):
@@ -268,19 +268,19 @@ def some_query(chance):
 
 def some_costs(chance, boxes):
     """Lines that ask what queries for the same boxes cost: a count, all of them, and limits about their number."""
-    asked, order = chance.choice([some_boxes, some_wide_region])(chance), some_order(chance)
+    region, order = chance.choice([some_boxes, some_wide_region])(chance), some_order(chance)
     if chance.random() < 0.2:
-        asked, order = [b"all"], [b"near", *some_point(chance)]
-    find = [b"find", *asked, *order]
+        region, order = [b"all"], [b"near", *some_point(chance)]
+    find = [b"find", *region, *order]
     try:
         question = reading.question(reading.Words(b" ".join(find)))
     except reading.Fault:  # a polygon that isn't one
         return some_costs(chance, boxes)
     count = len(reading.answers(boxes, question.region.accepts, question.score, None))
-    lines = [[b"count", *asked], find]
+    lines = [[b"count", *region], find]
     for limit in {0, 1, chance.randint(0, count), max(count - 1, 0), count, count + 1}:
         lines.append([*find, b"first", b"%d" % limit])
-        if asked == [b"all"] and order[:1] == [b"near"]:
+        if region == [b"all"] and order[:1] == [b"near"]:
             lines.append([b"nearest", b"%d" % limit, *order[1:]])
     return [b" ".join([b"cost", *line]) for line in lines]
 
@@ -438,11 +438,11 @@ def differs(program, folder, chance, met):
     table, queries = some_table(chance), some_queries(chance)
     header, most = chance.random() < 0.2, chance.choice([MOST_ENTRIES] * 9 + [5, 1])
     fanout = chance.choice(FANOUTS)
-    wanted = reading.expected(table, queries, header, most, fanout)
-    met.update(re.findall(r"record \d+: (.*)", wanted[2].decode()))
-    for line, text in enumerate(reading.lines_of(queries) if not wanted[2] else [], 1):
-        met.update(kinds(line, text, wanted[1]))
-    return difference(program, folder, table, queries, header, most, fanout, wanted)
+    expected = reading.expected(table, queries, header, most, fanout)
+    met.update(re.findall(r"record \d+: (.*)", expected[2].decode()))
+    for line, text in enumerate(reading.lines_of(queries) if not expected[2] else [], 1):
+        met.update(kinds(line, text, expected[1]))
+    return difference(program, folder, table, queries, header, most, fanout, expected)
 
 
 def costs_differ(program, folder, chance, met):
@@ -451,68 +451,68 @@ def costs_differ(program, folder, chance, met):
     boxes = reading.boxes(table, False, MOST_ENTRIES)
     lines = [line for _ in range(5) for line in some_costs(chance, boxes)]
     queries = b"".join(line + b"\n" for line in lines)
-    wanted = reading.expected(table, queries, fanout=fanout)
-    for line, told in zip(lines, re.findall(rb"^ok \d+ (\d+)$", wanted[1], re.MULTILINE), strict=True):
-        met.update(cost_kinds(boxes, fanout, line, int(told)))
-    return difference(program, folder, table, queries, False, MOST_ENTRIES, fanout, wanted)
+    expected = reading.expected(table, queries, fanout=fanout)
+    for line, cost in zip(lines, re.findall(rb"^ok \d+ (\d+)$", expected[1], re.MULTILINE), strict=True):
+        met.update(cost_kinds(boxes, fanout, line, int(cost)))
+    return difference(program, folder, table, queries, False, MOST_ENTRIES, fanout, expected)
 
 
 def limits_differ(program, folder, chance, met):
     """The same of a run over many boxes, of which so many are asked for."""
     table, fanout = some_many_boxes(chance), chance.choice(FANOUTS)
     lines = [some_limited(chance) for _ in range(12)]
-    wanted = reading.expected(table, b"".join(line + b"\n" for line in lines), fanout=fanout)
+    expected = reading.expected(table, b"".join(line + b"\n" for line in lines), fanout=fanout)
     boxes = reading.boxes(table, False, MOST_ENTRIES)
     for line in lines:
         met.update(limit_kinds(boxes, line))
-    return difference(program, folder, table, b"".join(line + b"\n" for line in lines), False, MOST_ENTRIES, fanout, wanted)
+    return difference(program, folder, table, b"".join(line + b"\n" for line in lines), False, MOST_ENTRIES, fanout, expected)
 
 
-def difference(program, folder, table, queries, header, most, fanout, wanted):
+def difference(program, folder, table, queries, header, most, fanout, expected):
     """Makes a run, and tells it where it isn't what is wanted."""
     Path(folder, "table").write_bytes(table)
     words = ["--header"] * header + ["--fanout", str(fanout), "--max-entries", str(most), "table"]
     done = subprocess.run([program, *words], cwd=folder, input=queries, capture_output=True, timeout=60)
     found = done.returncode, done.stdout, done.stderr
-    if found == wanted:
+    if found == expected:
         return None
-    return f"{' '.join(words)}\n  table    {table}\n  queries  {queries}\n  expected {wanted}\n  found    {found}"
+    return f"{' '.join(words)}\n  table    {table}\n  queries  {queries}\n  expected {expected}\n  found    {found}"
 
 
 def kinds(at, line, output):
     """What a line is a case of: its fault, or its verb, region, order and limit; with `on` or `cost` it is told too."""
-    told = re.search(rb"^(ok|error) %d ([^ \n]*)" % at, output, re.MULTILINE)
-    if told is None:
+    ending = re.search(rb"^(ok|error) %d ([^ \n]*)" % at, output, re.MULTILINE)
+    if ending is None:
         return ["skipped"]
     words = [word.decode(errors="replace") for word in reading.Words(line).left]
-    if told[1] == b"error":
-        code = told[2].decode()
+    if ending[1] == b"error":
+        code = ending[2].decode()
         return ["error", code, *(f"{code} of {word}" for word in ("on", "cost") if word in words)]
     kinds = {word for word in words if word.isalpha()}
     return ["ok", *kinds, *(f"{kind} and {word}" for kind in kinds for word in {"on", "cost"} & kinds)]
 
 
-def cost_kinds(boxes, fanout, line, told):
+def cost_kinds(boxes, fanout, line, cost):
     """What a line that asks for a cost is a case of: its limit beside the number of answers, the nodes beside all."""
-    asked = reading.question(reading.Words(line.removeprefix(b"cost")))
-    scores = [score for score, _ in reading.answers(boxes, asked.region.accepts, asked.score, None)]
-    limit, nodes = asked.limit, sum(reading.level_sizes(len(boxes), fanout)[1:])
+    query = reading.question(reading.Words(line.removeprefix(b"cost")))
+    scores = [score for score, _ in reading.answers(boxes, query.region.accepts, query.score, None)]
+    limit, nodes = query.limit, sum(reading.level_sizes(len(boxes), fanout)[1:])
     if limit in (None, 0, 1):
         yield f"a cost with the limit {limit}"
     elif limit < len(scores):
         yield "a cost with a limit at a tie" if scores[limit - 1] == scores[limit] else "a cost with a limit below"
     else:
         yield "a cost with a limit at the end" if limit == len(scores) else "a cost with a limit beyond"
-    yield "a cost of all nodes" if told == nodes else "a cost of some nodes" if told > 1 else f"a cost of {told}"
-    if asked.verb == b"count" and told < reading.opened(boxes, fanout, asked._replace(verb=b"find")):
+    yield "a cost of all nodes" if cost == nodes else "a cost of some nodes" if cost > 1 else f"a cost of {cost}"
+    if query.verb == b"count" and cost < reading.opened(boxes, fanout, query._replace(verb=b"find")):
         yield f"a node counted whole of {reading.Words(line).left[2].decode()}"
 
 
 def limit_kinds(boxes, line):
     """What a line with a limit is a case of: which limit, where there are more answers."""
-    asked = reading.question(reading.Words(line))
-    if asked.limit in FEW_AND_MANY and asked.limit < len(reading.answers(boxes, asked.region.accepts, asked.score, None)):
-        yield f"a limit of {asked.limit} below"
+    query = reading.question(reading.Words(line))
+    if query.limit in FEW_AND_MANY and query.limit < len(reading.answers(boxes, query.region.accepts, query.score, None)):
+        yield f"a limit of {query.limit} below"
 
 
 PARTS = {"find", "count", "near", "smallest", "first", *(name.decode() for name in REGIONS)}

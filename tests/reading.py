@@ -304,11 +304,11 @@ def layers(words):
     return set(range(LAYERS[0], LAYERS[1] + 1))
 
 
-def asked_boxes(words):
+def boxes_region(words):
     """A region on the layers that are asked for: of boxes of a table."""
     accepts, score, state = region(words)
-    asked = layers(words)
-    return Region(lambda box: box[4] in asked and accepts(box), score, search.on_layers(state, asked))
+    selected = layers(words)
+    return Region(lambda box: box[4] in selected and accepts(box), score, search.on_layers(state, selected))
 
 
 def order(words, otherwise):
@@ -345,29 +345,29 @@ def question(words):
     verb, limit = words.take(), None
     if verb == b"nearest":
         limit = words.number(LIMITS)
-        asked, score = asked_boxes(Words(b"all")), near(words.point())
+        chosen, score = boxes_region(Words(b"all")), near(words.point())
     elif verb in (b"find", b"count"):
-        asked = asked_boxes(words)
-        score = order(words, asked.score) if verb == b"find" else by_id
+        chosen = boxes_region(words)
+        score = order(words, chosen.score) if verb == b"find" else by_id
         if verb == b"find" and words.takes(b"first"):
             limit = words.number(LIMITS)
     else:
         raise Fault("Q2")
     words.end()
-    return Question(verb, asked, score, limit)
+    return Question(verb, chosen, score, limit)
 
 
-def opened(table, fanout, asked):
+def opened(table, fanout, query):
     """How many nodes of the tree over a table are opened to answer a question."""
     root = search.pack([search.Item(box[:4], 0, None, id, {box[4]}) for id, box in table.items()], fanout)
-    if asked.verb == b"count":
-        return search.count(root, asked.region.state)[1]
+    if query.verb == b"count":
+        return search.count(root, query.region.state)[1]
 
     def least(item):
         """The least score of the boxes in a node: of their areas nothing is known."""
-        return 0 if asked.score is area and item.level > 0 else asked.score(item.box)
+        return 0 if query.score is area and item.level > 0 else query.score(item.box)
 
-    return search.search(root, asked.region.state, least, asked.limit)[1]
+    return search.search(root, query.region.state, least, query.limit)[1]
 
 
 def query_reply(table, fanout, words):
@@ -378,10 +378,10 @@ def query_reply(table, fanout, words):
         return [b"%d %d" % (level, size) for level, size in reversed([*enumerate(sizes)])], len(sizes)
     if words.takes(b"cost"):
         return [], opened(table, fanout, question(words))
-    asked = question(words)
-    if asked.verb == b"count":
-        return [], sum(map(asked.region.accepts, table.values()))
-    found = answers(table, asked.region.accepts, asked.score, asked.limit)
+    query = question(words)
+    if query.verb == b"count":
+        return [], sum(map(query.region.accepts, table.values()))
+    found = answers(table, query.region.accepts, query.score, query.limit)
     return [b"%d %d" % (id, score) for score, id in found], len(found)
 
 
@@ -393,8 +393,8 @@ def reply(table, fanout, at, line):
         words = Words(line)
         if not words.left or words.left[0].startswith(b"#"):
             return [], False
-        lines, told = query_reply(table, fanout, words)
-        return [*lines, b"ok %d %d" % (at, told)], False
+        lines, count = query_reply(table, fanout, words)
+        return [*lines, b"ok %d %d" % (at, count)], False
     except Fault as fault:
         code = str(fault)
         return [f"error {at} {code} {FAULTS[code]}".encode()], True

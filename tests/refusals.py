@@ -130,20 +130,20 @@ class Refuser:
             found.append(result)
 
 
-def differences(found, wanted):
+def differences(found, expected):
     """Which results aren't among those that are wanted of them."""
-    wrong = [f"{len(found)} runs, and not {len(wanted)}"] if len(found) != len(wanted) else []
-    for at, (result, allowed) in enumerate(zip(found, wanted), 1):
+    wrong = [f"{len(found)} runs, and not {len(expected)}"] if len(found) != len(expected) else []
+    for at, (result, allowed) in enumerate(zip(found, expected), 1):
         if result not in allowed:
             wrong.append(f"run {at}: {result!s:.300}")
     return wrong
 
 
 def memory(refuser, program):
-    for words, stdin, wanted in RUNS:
+    for words, stdin, expected in RUNS:
         for many in (ONCE, FROM_THERE_ON):
             found, whole = refuser.each([program, *words], Refusal("memory", errno.ENOMEM, many), stdin)
-            wrong = differences([*found, whole], [[NO_MEMORY]] * len(found) + [[wanted]])
+            wrong = differences([*found, whole], [[NO_MEMORY]] * len(found) + [[expected]])
             yield f"memory, {' '.join(words):.50}{', and all after it' * (many > 1)}", len(found), wrong
 
 
@@ -152,10 +152,10 @@ def after_the_load(refuser, program):
     command, refusal = [program, "--fanout", "2", "layers.csv"], Refusal("memory", errno.ENOMEM, FROM_THERE_ON)
     chance = random.Random(1)
     lines = [random_runs.some_line(chance) for _ in range(500)] + [b"a" * 5000, b"find all near 3 3"]
-    asked = b"\n".join(lines)
+    queries = b"\n".join(lines)
     found, whole = refuser.each(command, refusal)
-    result, met = refuser.run(command, refusal, len(found) + 1, asked)
-    wrong = differences([whole, result], [[(0, b"", b"")], [reading.expected(LAYERED, asked, fanout=2)]])
+    result, met = refuser.run(command, refusal, len(found) + 1, queries)
+    wrong = differences([whole, result], [[(0, b"", b"")], [reading.expected(LAYERED, queries, fanout=2)]])
     if met:
         wrong.append(f"{met} growths after the load")
     yield f"no memory for {len(lines)} lines after the load", len(found), wrong
@@ -187,37 +187,37 @@ def devices(refuser, program):
             yield f"reads, {os.strerror(error)}{', and all after it' * (many > 1)}", len(found), wrong
     once = [[(5, part, NOT_WRITTEN)] for part in parts[:-1]]
     none = [[(5, part, b"")] for part in parts[:-1]]
-    for name, error, many, wanted in (
+    for name, error, many, expected in (
         ("writes", errno.EIO, ONCE, once),
         ("writes, and all after it", errno.EIO, FROM_THERE_ON, none),
         ("writes that are interrupted", errno.EINTR, ONCE, [[answered]] * len(once)),
     ):
         found, whole = refuser.each(command, Refusal("write", error, many))
-        yield name, len(found), differences([*found, whole], [*wanted, [answered]])
+        yield name, len(found), differences([*found, whole], [*expected, [answered]])
 
 
 def long_answers(refuser, program):
     """Writes that fail or are interrupted where one reply is more than the buffer of standard output holds."""
-    asked = b"find all\n" * 3
-    answered = reading.expected(MANY, asked)
+    queries = b"find all\n" * 3
+    answered = reading.expected(MANY, queries)
     for name, error in (("writes", errno.EIO), ("writes that are interrupted", errno.EINTR)):
-        found, whole = refuser.each([program, "many.csv"], Refusal("write", error, ONCE), asked)
+        found, whole = refuser.each([program, "many.csv"], Refusal("write", error, ONCE), queries)
         wrong = []
-        for at, (status, output, told) in enumerate([*found, whole], 1):
+        for at, (status, output, errors) in enumerate([*found, whole], 1):
             is_lost = at <= len(found) and error == errno.EIO
-            is_front = answered[1].startswith(output) and (status, told) == (5, NOT_WRITTEN)
-            if not (is_front if is_lost else (status, output, told) == answered):
-                wrong.append(f"run {at}: {status}, {len(output)} bytes, {told}")
+            is_front = answered[1].startswith(output) and (status, errors) == (5, NOT_WRITTEN)
+            if not (is_front if is_lost else (status, output, errors) == answered):
+                wrong.append(f"run {at}: {status}, {len(output)} bytes, {errors}")
         yield f"{name}, long answers", len(found), wrong
 
 
 def given_up(refuser, program):
     """Where all writes fail from one on, two are refused: one of the output, and that of the line on standard error."""
     refusal = Refusal("write", errno.EIO, FROM_THERE_ON)
-    for name, asked in (("many lines", FILES["lines"]), ("long answers", b"find all\n" * 3)):
+    for name, queries in (("many lines", FILES["lines"]), ("long answers", b"find all\n" * 3)):
         made = []
         while True:
-            result, met = refuser.run([program, "many.csv"], refusal, len(made) + 1, asked)
+            result, met = refuser.run([program, "many.csv"], refusal, len(made) + 1, queries)
             if not met:
                 break
             made.append(met)
@@ -227,9 +227,9 @@ def given_up(refuser, program):
 
 def opens(refuser, program):
     """TABLE is opened once, and then QUERIES once, where they are named."""
-    for words, wanted in ((["boxes.csv", "queries.txt"], NOT_OPENED), (["boxes.csv"], NOT_OPENED[:1])):
+    for words, expected in ((["boxes.csv", "queries.txt"], NOT_OPENED), (["boxes.csv"], NOT_OPENED[:1])):
         found, whole = refuser.each([program, *words], Refusal("open", errno.EACCES, ONCE), QUERIES)
-        wrong = differences([*found, whole], [*([one] for one in wanted), [(0, ANSWERS, b"")]])
+        wrong = differences([*found, whole], [*([one] for one in expected), [(0, ANSWERS, b"")]])
         yield f"opens, {' '.join(words)}", len(found), wrong
 
 
@@ -247,12 +247,12 @@ def files_first(refuser, program):
 
 def short(refuser, program):
     """Reads and writes that move a single byte: the run is as ever."""
-    for words, stdin, wanted in [*RUNS, (["many.csv"], b"find all\n", reading.expected(MANY, b"find all\n"))]:
+    for words, stdin, expected in [*RUNS, (["many.csv"], b"find all\n", reading.expected(MANY, b"find all\n"))]:
         # (a run with bad words reads nothing)
-        for call in ("read", "write") if wanted[0] != 2 else ("write",):
-            many = FROM_THERE_ON if len(wanted[1]) < 1000 else ONCE
+        for call in ("read", "write") if expected[0] != 2 else ("write",):
+            many = FROM_THERE_ON if len(expected[1]) < 1000 else ONCE
             found, whole = refuser.each([program, *words], Refusal(call, 0, many), stdin)
-            wrong = differences([*found, whole], [[wanted]] * (len(found) + 1))
+            wrong = differences([*found, whole], [[expected]] * (len(found) + 1))
             yield f"single bytes a {call}, {' '.join(words):.50}", len(found), wrong
 
 

@@ -141,12 +141,12 @@ def in_circle(centre, radius):
     return state
 
 
-def on_layers(inner, asked):
+def on_layers(inner, selected):
     """The boxes of which a layer is asked for. A node is full only where all of its layers are."""
     def state(item):
-        if not item.layers & asked:
+        if not item.layers & selected:
             return NOT
-        return inner(item) if item.layers <= asked else min(inner(item), PARTLY)
+        return inner(item) if item.layers <= selected else min(inner(item), PARTLY)
     return state
 
 
@@ -160,7 +160,7 @@ def ranks(point):
 
 def search(root, state, score, limit):
     """The answers with the nodes opened up to each, and the nodes opened and the checks made in the end."""
-    queue, opened, asked, found = [], 0, 0, []
+    queue, opened, checks, found = [], 0, 0, []
     if root and limit != 0:
         queue.append((0, 0, root.number, root))
     while queue and (limit is None or len(found) < limit):
@@ -170,10 +170,10 @@ def search(root, state, score, limit):
             continue
         opened += 1
         for child in item.children:
-            asked += 1
+            checks += 1
             if state(child) != NOT:
                 heapq.heappush(queue, (score(child), int(child.level == 0), child.number, child))
-    return found, opened, asked
+    return found, opened, checks
 
 
 def size(item):
@@ -182,21 +182,21 @@ def size(item):
 
 def count(root, state):
     """How many are accepted, the nodes opened and the checks made."""
-    told = [0, 0, 0]
+    counts = [0, 0, 0]
 
     def open_node(node):
-        told[1] += 1
+        counts[1] += 1
         for child in node.children:
-            told[2] += 1
+            counts[2] += 1
             within = state(child)
             if within == FULLY or (within == PARTLY and child.level == 0):
-                told[0] += size(child)
+                counts[0] += size(child)
             elif within == PARTLY:
                 open_node(child)
 
     if root:
         open_node(root)
-    return told
+    return counts
 
 
 class Digest:
@@ -210,12 +210,12 @@ class Digest:
 
 def add_geometry(digest, root, state, score):
     for limit in [None, *range(1, MOST_ANSWERS + 1)]:
-        found, opened, asked = search(root, state, score, limit)
+        found, opened, checks = search(root, state, score, limit)
         for id_, value, opened_then in found:
             digest.add(id_ + 32768, value >> 64, value % 2**64, opened_then)
         if limit is None or len(found) < limit:
             digest.add(opened)
-        digest.add(asked)
+        digest.add(checks)
     digest.add(*count(root, state))
 
 
@@ -227,9 +227,9 @@ def digest_of(seed, lie, entries, fanout, layers):
         area, around = row.box(lie), row.box(lie)
         point = around[0], around[2]
         radius = abs(around[1] - area[1])
-        asked = {row.next() % (layers or ALL_LAYERS) for _ in range(2)}
+        selected = {row.next() % (layers or ALL_LAYERS) for _ in range(2)}
         for shape in in_window(area), in_circle(point, radius), everything:
-            for state in shape, on_layers(shape, asked):
+            for state in shape, on_layers(shape, selected):
                 for score in ranks(point):
                     add_geometry(digest, root, state, score)
     return digest.value

@@ -54,11 +54,11 @@ def first_fault(program, folder, table):
     for size in range(len(table) + 1):
         Path(folder, "table").write_bytes(table[:size])
         for header in (False, True):
-            wanted = reading.expected(table[:size], QUERIES, header)
+            expected = reading.expected(table[:size], QUERIES, header)
             found = run(program, folder, ["--header"] * header)
-            statuses.add(wanted[0])
-            if found != wanted:
-                return f"{size} bytes, header {header}: {difference(wanted, found)}"
+            statuses.add(expected[0])
+            if found != expected:
+                return f"{size} bytes, header {header}: {difference(expected, found)}"
     return None if statuses == {0, 3} else f"the only statuses were {statuses}"
 
 

@@ -39,12 +39,12 @@ def build(tree):
 
 def calls_of(program, tree):
     """Which functions each function called, as a run of the program over the example's boxes has it."""
-    told = tree / "callgrind"
-    command = ["valgrind", "--tool=callgrind", "--compress-strings=no", f"--callgrind-out-file={told}", program]
+    profile = tree / "callgrind"
+    command = ["valgrind", "--tool=callgrind", "--compress-strings=no", f"--callgrind-out-file={profile}", program]
     subprocess.run([*command, ROOT / "examples/data/boxes.csv"], input=LINE, capture_output=True, check=True)
     calls = collections.defaultdict(set)
     caller = None
-    for line in told.read_text(encoding="utf-8").splitlines():
+    for line in profile.read_text(encoding="utf-8").splitlines():
         if found := CALLER_OR_CALLED.match(line):
             if line.startswith("c"):
                 calls[caller].add(found[1])

@@ -46,11 +46,11 @@ import (
 	"unsafe"
 )
 
-// Room for answers that a call begins with, in all or for each query, and the most that a session keeps for the next call.
+// Capacity for answers that a call begins with, in all or for each query, and the most that a session keeps for the next call.
 const (
-	firstRoom   = 256
-	roomOfQuery = 32
-	mostKept    = 4096
+	firstCapacity   = 256
+	capacityOfQuery = 32
+	mostKept        = 4096
 )
 
 // Session is an open session, for one goroutine at a time: a call panics if the session is in a call of another one. Share opens
@@ -60,7 +60,7 @@ type Session struct {
 	session C.rtfilter_session
 	place   uintptr // where this session was opened: a copy is somewhere else
 	inUse   int32
-	room    []int64 // where Find has answers stored before it knows how many there are
+	buffer  []int64 // where Find has answers stored before it knows how many there are
 }
 
 // What `go vet` doesn't let be copied.
@@ -199,14 +199,14 @@ func (it *Session) Forget() {
 func (it *Session) Find(query Query) ([]int64, error) {
 	it.begin()
 	defer it.end()
-	found, err := it.findInto(query, nil, it.room)
+	found, err := it.findInto(query, nil, it.buffer)
 	if err != nil {
 		return nil, err
 	}
 	if cap(found) > mostKept {
 		return found, nil
 	}
-	it.room = found
+	it.buffer = found
 	return append(make([]int64, 0, len(found)), found...), nil
 }
 
@@ -237,19 +237,19 @@ func (it *Session) FindEach(queries []Query, vertices []Point) (Answers, error) 
 
 // Puts the answers of queries behind each other, and where those of each end.
 func (it *Session) put(queries []Query, vertices []Point, all *Answers, hasScores bool) error {
-	room := cap(all.IDs)
-	if least := roomOfQuery * len(queries); room < least || room < firstRoom {
-		if room = firstRoom; room < least {
-			room = least
+	capacity := cap(all.IDs)
+	if least := capacityOfQuery * len(queries); capacity < least || capacity < firstCapacity {
+		if capacity = firstCapacity; capacity < least {
+			capacity = least
 		}
 	}
 	first, skip := 0, C.size_t(0)
 	for {
 		found := len(all.IDs)
-		all.IDs = grown(all.IDs, room)
+		all.IDs = grown(all.IDs, capacity)
 		var scores unsafe.Pointer
 		if hasScores {
-			all.Scores = grown(all.Scores, room)
+			all.Scores = grown(all.Scores, capacity)
 			scores = at(all.Scores[found:])
 		}
 		rest, ends := queries[first:], all.Ends[first:]
@@ -274,7 +274,7 @@ func (it *Session) put(queries []Query, vertices []Point, all *Answers, hasScore
 		if err != nil {
 			return err
 		}
-		room = left - int(skip)
+		capacity = left - int(skip)
 	}
 }
 

@@ -204,10 +204,10 @@ func TestLongListsAndReplies(t *testing.T) {
 	reply, _, err := session.Ask([]byte("find all"))
 	expect(t, err, nil)
 	expect(t, string(reply), text.String()+"ok 1 1000\n")
-	room := make([]int64, 0, 2000)
-	found, err := session.FindInto(All(), nil, room)
+	buffer := make([]int64, 0, 2000)
+	found, err := session.FindInto(All(), nil, buffer)
 	expect(t, err, nil)
-	expect(t, &found[0] == &room[:1][0] && reflect.DeepEqual(found, ids), true)
+	expect(t, &found[0] == &buffer[:1][0] && reflect.DeepEqual(found, ids), true)
 }
 
 func TestGreatestScore(t *testing.T) {

@@ -108,17 +108,17 @@ class Versions(unittest.TestCase):
 
 
 class Packages(unittest.TestCase):
-    room: Path
+    scratch: Path
     packages: dict[str, Path]
 
     @classmethod
     def setUpClass(cls) -> None:
         if LIBRARY and all(map(shutil.which, TOOLS)):
-            cls.room = Path(cls.enterClassContext(tempfile.TemporaryDirectory()))
-            made = run(sys.executable, MAKE, PROGRAM, LIBRARY, cls.room).split()
+            cls.scratch = Path(cls.enterClassContext(tempfile.TemporaryDirectory()))
+            made = run(sys.executable, MAKE, PROGRAM, LIBRARY, cls.scratch).split()
             cls.packages = {Path(name).name.split("_")[0]: Path(name) for name in made}
             for name, package in cls.packages.items():
-                run("dpkg-deb", "--extract", package, cls.room / name)
+                run("dpkg-deb", "--extract", package, cls.scratch / name)
 
     def setUp(self) -> None:
         wants(self, *TOOLS)
@@ -137,11 +137,11 @@ class Packages(unittest.TestCase):
             kinds = ("amd64", "amd64", "amd64", "amd64", "amd64", "amd64", "all", "all", "amd64")
             self.assertEqual([Path(name).name for name in made], [f"{it}_{VERSION}-1_{kind}.deb" for it, kind in zip(names, kinds)])
             for name in made:
-                self.assertEqual(Path(name).read_bytes(), (self.room / Path(name).name).read_bytes(), name)
+                self.assertEqual(Path(name).read_bytes(), (self.scratch / Path(name).name).read_bytes(), name)
 
     def held(self, name: str) -> dict[str, int]:
         """The files of a package, and their modes."""
-        tree = self.room / name
+        tree = self.scratch / name
         return {path.relative_to(tree).as_posix(): path.stat().st_mode & 0o7777 for path in tree.rglob("*") if path.is_file()}
 
     def test_what_they_hold(self) -> None:
@@ -164,10 +164,10 @@ class Packages(unittest.TestCase):
         for package in self.packages.values():
             listed = run("dpkg-deb", "--contents", package)
             self.assertEqual({line.split()[1] for line in listed.splitlines()}, {"root/root"})
-        tree = self.room / "rtfilter"
+        tree = self.scratch / "rtfilter"
         self.assertIn("no symbols", run("objdump", "--syms", tree / "usr/bin/rtfilter"))
         for command, package in COMMANDS.items():
-            manual = gzip.decompress((self.room / package / f"usr/share/man/man1/{command}.1.gz").read_bytes())
+            manual = gzip.decompress((self.scratch / package / f"usr/share/man/man1/{command}.1.gz").read_bytes())
             self.assertEqual(manual, (ROOT / f"docs/{command}.1").read_bytes())
             for other in COMMANDS.keys() - {command}:
                 self.assertIn(f".BR {other} (1)", manual.decode())
@@ -239,14 +239,14 @@ class Packages(unittest.TestCase):
 
     def test_debug_symbols(self) -> None:
         """They belong to the program, and name its functions."""
-        identity = found(r"Build ID: (\w\w)(\w+)", run("readelf", "--notes", self.room / "rtfilter/usr/bin/rtfilter"))
-        symbols = self.room / "rtfilter-dbgsym/usr/lib/debug/.build-id" / identity[1] / f"{identity[2]}.debug"
+        identity = found(r"Build ID: (\w\w)(\w+)", run("readelf", "--notes", self.scratch / "rtfilter/usr/bin/rtfilter"))
+        symbols = self.scratch / "rtfilter-dbgsym/usr/lib/debug/.build-id" / identity[1] / f"{identity[2]}.debug"
         self.assertIn("rt_filter", run("objdump", "--syms", symbols))
 
     def test_by_lintian(self) -> None:
         wants(self, "lintian")
-        told = run("lintian", "--allow-root", "--fail-on", "error", *self.packages.values()).splitlines()
-        self.assertEqual([line for line in told if not any(tag in line for tag in FINE)], [])
+        report = run("lintian", "--allow-root", "--fail-on", "error", *self.packages.values()).splitlines()
+        self.assertEqual([line for line in report if not any(tag in line for tag in FINE)], [])
 
     def test_installed_and_removed(self) -> None:
         """In a folder that stands for the system, which has the library in a version that is old enough, or not."""
@@ -267,11 +267,11 @@ class Packages(unittest.TestCase):
                     continue
                 names = "rtfilter", "librtfilter0", "python3-rtfilter", "rtfilter-tools"
                 run(*dpkg, "--install", *(self.packages[it] for it in names))
-                told = run(Path(system, "usr/bin/rtfilter"), DATA / "boxes.csv", DATA / "queries.txt")
-                self.assertEqual(told, (DATA / "answers.txt").read_text())
-                asked = f"import rtfilter; print(rtfilter.Rtfilter('{DATA / 'boxes.csv'}').count(rtfilter.All()))"
+                output = run(Path(system, "usr/bin/rtfilter"), DATA / "boxes.csv", DATA / "queries.txt")
+                self.assertEqual(output, (DATA / "answers.txt").read_text())
+                script = f"import rtfilter; print(rtfilter.Rtfilter('{DATA / 'boxes.csv'}').count(rtfilter.All()))"
                 words = {"PYTHONPATH": f"{system}/usr/lib/python3/dist-packages", "PATH": f"{system}/usr/bin:{path}", "LD_LIBRARY_PATH": f"{system}/{LIBRARIES}"}
-                self.assertEqual(run("/usr/bin/python3", "-B", "-c", asked, env=words), "5\n")
+                self.assertEqual(run("/usr/bin/python3", "-B", "-c", script, env=words), "5\n")
                 words["PYTHONDONTWRITEBYTECODE"] = "1"
                 examples = Path(system, "usr/share/rtfilter/examples")
                 zones, lines = examples / "data/zones.geojson", "it,16.38,48.19,1\n"
@@ -286,7 +286,7 @@ class Packages(unittest.TestCase):
     def test_the_service_of_systemd(self) -> None:
         """Its user and the folder of its table are made; what it is told in /etc/default are words of its command."""
         wants(self, "systemd-analyze")
-        tree, control = self.room / "rtfilter-service", self.room / "control"
+        tree, control = self.scratch / "rtfilter-service", self.scratch / "control"
         run("dpkg-deb", "--control", self.packages["rtfilter-service"], control)
         self.assertEqual((control / "conffiles").read_text(), "/etc/default/rtfilter-service\n")
         with tempfile.TemporaryDirectory() as folder:
@@ -323,7 +323,7 @@ class Packages(unittest.TestCase):
             run("dpkg-deb", "--root-owner-group", "--build", f"{folder}/newer", newer)
             dpkg = ["env", f"PATH={os.environ['PATH']}:/usr/sbin:/sbin", "dpkg", f"--root={system}", f"--log={os.devnull}"]
             run(*dpkg, "--install", self.packages["rtfilter"])
-            for words, active, wanted in (
+            for words, active, expected in (
                 (("--install", self.packages["rtfilter-service"]), False, []),
                 (("--install", newer), True, [f"--quiet --system restart {ALL_UNITS}", f"try-restart {INSTANCES}"]),
                 (("--install", newer), False, [f"try-restart {INSTANCES}"]),
@@ -331,7 +331,7 @@ class Packages(unittest.TestCase):
             ):
                 (system / "log").unlink(missing_ok=True)
                 run(*dpkg, *words)
-                self.assertEqual(self.called(system / "log", active), wanted, words)
+                self.assertEqual(self.called(system / "log", active), expected, words)
 
     def called(self, log: Path, active: bool) -> list[str]:
         """What the system's deb-systemd-invoke has systemctl do, as it is called in a log."""
@@ -348,7 +348,7 @@ class Packages(unittest.TestCase):
         """What the program's package and the Python package have in common."""
         share = Path(self.enterContext(tempfile.TemporaryDirectory()), "share")
         for name in SCRIPTS:
-            shutil.copytree(self.room / name / SHARED, share, dirs_exist_ok=True)
+            shutil.copytree(self.scratch / name / SHARED, share, dirs_exist_ok=True)
         return share
 
     def test_links_of_pages(self) -> None:

@@ -16,7 +16,7 @@ from test_package import LIBRARY, VERSION, run, wants
 MAKE = ROOT / "packaging/make_wheel.py"
 PREFORK = Path(PROGRAM).with_name("rtfilter-prefork.so")
 NAME = f"rtfilter-{VERSION}-cp311-abi3-manylinux_2_34_x86_64.whl"
-ASKED = """
+SCRIPT = """
 import rtfilter
 from rtfilter import Rtfilter, Window
 print(rtfilter.__version__, Rtfilter("boxes.csv").find(Window(0, 10, 0, 10)), rtfilter.__file__)
@@ -75,7 +75,7 @@ class Wheel(unittest.TestCase):
         binaries = self.environment()
         self.pip(binaries, "install", "--no-index", self.wheel)
         plain = {"PATH": "/nonexistent", "PYTHONDONTWRITEBYTECODE": "1"}
-        version, found, *_, place = run(binaries / "python", "-c", ASKED, env=plain, cwd=DATA).replace(", ", ",").split()
+        version, found, *_, place = run(binaries / "python", "-c", SCRIPT, env=plain, cwd=DATA).replace(", ", ",").split()
         self.assertEqual((version, found), (VERSION, "[1,2]"))
         self.assertTrue(place.startswith(str(self.folder)), place)
         done = subprocess.run([binaries / "rtfilter", DATA / "boxes.csv"], input="count all\n", capture_output=True, text=True, env=plain)
@@ -95,17 +95,17 @@ class Wheel(unittest.TestCase):
         binaries = self.environment("--system-site-packages")
         words = {"RTFILTER_ARCHIVE": LIBRARY, "RTFILTER_INCLUDE": str(ROOT / "include")}
         self.pip(binaries, "install", "--no-index", "--no-build-isolation", copy, **words)
-        told = run(binaries / "python", "-c", ASKED, cwd=DATA, env={"PATH": "/nonexistent", "PYTHONDONTWRITEBYTECODE": "1"})
-        self.assertIn("[1, 2]", told)
+        output = run(binaries / "python", "-c", SCRIPT, cwd=DATA, env={"PATH": "/nonexistent", "PYTHONDONTWRITEBYTECODE": "1"})
+        self.assertIn("[1, 2]", output)
 
     def test_what_other_systems_lack(self) -> None:
         source = self.folder / "newer.c"
         source.write_text("#include <stdlib.h>\nunsigned newer(void) { return arc4random(); }\n")
         run("cc", "-shared", "-fPIC", "-o", self.folder / "newer.so", source)
-        for file, told in ((self.folder / "newer.so", "wants GLIBC_2.36"), ("/bin/bash", "wants libtinfo.so.6")):
+        for file, reason in ((self.folder / "newer.so", "wants GLIBC_2.36"), ("/bin/bash", "wants libtinfo.so.6")):
             words = [sys.executable, MAKE, PROGRAM, str(file), str(LIBRARY), self.folder]
             done = subprocess.run([*map(str, words)], capture_output=True, text=True)
-            self.assertEqual((done.returncode, done.stderr.splitlines()[-1]), (1, f"make_wheel.py: {file} {told}"))
+            self.assertEqual((done.returncode, done.stderr.splitlines()[-1]), (1, f"make_wheel.py: {file} {reason}"))
 
 
 if __name__ == "__main__":

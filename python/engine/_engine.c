@@ -723,9 +723,9 @@ static void keep(finding *it, const rtfilter_answers *part)
 static int find_step(finding *it, worker *by, size_t step)
 {
     size_t ends[STEP];
-    const size_t len = it->left.len < step ? it->left.len : step, room = it->capacity - it->kept;
+    const size_t len = it->left.len < step ? it->left.len : step, capacity = it->capacity - it->kept;
     rtfilter_queries some = {it->left.queries, len, NULL, 0};
-    rtfilter_answers part = {it->ids + it->kept, it->scores ? it->scores + it->kept : NULL, room, ends, 0, 0};
+    rtfilter_answers part = {it->ids + it->kept, it->scores ? it->scores + it->kept : NULL, capacity, ends, 0, 0};
     const int code = rtfilter_find(&by->session, &some, it->skip, &part);
     keep(it, &part);
     rtfilter_continue(&some, &it->skip, &part);
@@ -750,11 +750,11 @@ static int find_slice(finding *it, worker *by)
     return code;
 }
 
-/* Makes room in the bytearrays of places, ids and scores, and sets where they are. */
-static bool make_room(finding *it, PyObject *places, PyObject *ids, PyObject *scores)
+/* Grows the bytearrays of places, ids and scores, and sets where they are. */
+static bool grow(finding *it, PyObject *places, PyObject *ids, PyObject *scores)
 {
-    const Py_ssize_t room = PyByteArray_Size(ids) / 8 - (Py_ssize_t)it->kept;
-    if (room < (Py_ssize_t)(it->kept + it->left.len + FEW) / 2) {
+    const Py_ssize_t capacity = PyByteArray_Size(ids) / 8 - (Py_ssize_t)it->kept;
+    if (capacity < (Py_ssize_t)(it->kept + it->left.len + FEW) / 2) {
         const Py_ssize_t items = 2 * (Py_ssize_t)it->kept + 32 * (Py_ssize_t)it->left.len + FEW;
         if (PyByteArray_Resize(places, 8 * items) < 0 || PyByteArray_Resize(ids, 8 * items) < 0 ||
             (scores != Py_None && PyByteArray_Resize(scores, 16 * items) < 0))
@@ -771,7 +771,7 @@ static bool find_each_by(worker *by, finding *it, PyObject *places, PyObject *id
 {
     while (it->left.len > 0) {
         int code;
-        if (!make_room(it, places, ids, scores))
+        if (!grow(it, places, ids, scores))
             return false;
         Py_BEGIN_ALLOW_THREADS
         code = find_slice(it, by);

@@ -46,8 +46,8 @@ def more_rows(queries: Queries, bounds: NDArray[Any], pieces: list[Piece]) -> li
     far away as the last box that was found so far."""
     reached = _reached(queries, bounds, _may_answer(queries, bounds))
     last = _last_scores(len(queries), pieces, queries.first or 0)
-    is_asked = (reached <= last[:, None]) & numpy.isfinite(reached) & ~_nearest(reached)
-    return [numpy.flatnonzero(it) for it in is_asked.T]
+    goes_there = (reached <= last[:, None]) & numpy.isfinite(reached) & ~_nearest(reached)
+    return [numpy.flatnonzero(it) for it in goes_there.T]
 
 
 def overlapping_rows(windows: NDArray[Any], bounds: NDArray[Any]) -> list[Rows]:
@@ -101,10 +101,10 @@ def _index_within(count: int, places: Rows) -> Rows:
     return numpy.arange(len(places)) - begins[places]
 
 
-def _rows(is_asked: NDArray[numpy.bool_]) -> list[Rows]:
+def _rows(goes_there: NDArray[numpy.bool_]) -> list[Rows]:
     """For each column the rows that hold. A row that holds nowhere becomes one of the first column."""
-    is_asked[:, 0] |= ~is_asked.any(axis=1)
-    return [numpy.flatnonzero(it) for it in is_asked.T]
+    goes_there[:, 0] |= ~goes_there.any(axis=1)
+    return [numpy.flatnonzero(it) for it in goes_there.T]
 
 
 def _numbers(columns: Sequence[Any]) -> list[NDArray[Any]]:

@@ -94,10 +94,10 @@ def by_threads(table: Rtfilter) -> None:
 
 
 def in_a_child(table: Rtfilter) -> None:
-    wanted = table.find(All(), Smallest())
+    expected = table.find(All(), Smallest())
     child = os.fork()
     if child == 0:
-        os._exit(int(table.find(All(), Smallest()) != wanted))
+        os._exit(int(table.find(All(), Smallest()) != expected))
     assert os.waitpid(child, 0)[1] == 0
 
 

@@ -30,7 +30,7 @@ def table(data: Path) -> Path:
 
 
 @pytest.fixture
-def wanted(table: Path) -> str:
+def expected(table: Path) -> str:
     return exercised([sys.executable], PACKAGE, table)
 
 
@@ -46,12 +46,12 @@ def later_pythons() -> Iterator[str]:
                 break
 
 
-def test_later_pythons(table: Path, wanted: str) -> None:
+def test_later_pythons(table: Path, expected: str) -> None:
     pythons = [*later_pythons()]
     if not pythons:
         pytest.skip("no later Python than 3.11 is installed")
     for python in pythons:
-        assert exercised([python], PACKAGE, table) == wanted
+        assert exercised([python], PACKAGE, table) == expected
 
 
 def built(folder: Path, *words: str) -> Path:
@@ -72,17 +72,17 @@ def sanitized(tmp_path: Path) -> Path:
     return built(tmp_path, "-g", "-O", "-fsanitize=address,undefined", "-fno-sanitize-recover=all")
 
 
-def test_sanitizers(sanitized: Path, table: Path, wanted: str) -> None:
+def test_sanitizers(sanitized: Path, table: Path, expected: str) -> None:
     library = subprocess.check_output(["gcc", "-print-file-name=libasan.so"], text=True).strip()
     options = "detect_leaks=0:allocator_may_return_null=1"
     environment = {"LD_PRELOAD": library, "ASAN_OPTIONS": options, "PYTHONMALLOC": "malloc"}
-    assert exercised([sys.executable], sanitized, table, **environment) == wanted
+    assert exercised([sys.executable], sanitized, table, **environment) == expected
 
 
-def test_valgrind(table: Path, wanted: str) -> None:
+def test_valgrind(table: Path, expected: str) -> None:
     valgrind = shutil.which("valgrind") or pytest.skip("valgrind isn't installed")
     words = [valgrind, "--quiet", "--error-exitcode=9", "--trace-children=no", sys.executable]
-    assert exercised(words, PACKAGE, table, PYTHONMALLOC="malloc") == wanted
+    assert exercised(words, PACKAGE, table, PYTHONMALLOC="malloc") == expected
 
 
 OLD_PROCESSOR = f"""

@@ -66,7 +66,7 @@ def listed(frame: Any) -> list[tuple[Any, ...]]:
 def test_queries(kind: str, seed: int, tmp_path: Path) -> None:
     chance = random.Random(seed)
     boxes, queries = frame_of(chance, chance.choice([0, 1, 200])), queries_of(chance, 60)
-    asked = dataframe.from_pandas(queries, npartitions=3, sort=False)
+    partitioned = dataframe.from_pandas(queries, npartitions=3, sort=False)
     one = Rtfilter(rows_of(boxes))
     if kind == "table":
         file = tmp_path / "boxes.csv"
@@ -78,13 +78,13 @@ def test_queries(kind: str, seed: int, tmp_path: Path) -> None:
     orders: list[dict[str, Any]] = [{}, {"order": Near(3, 4), "first": 5}, {"order": Smallest(), "first": 3, "on": 1}, {"first": 2}, {"on": [0, 63]}, {"order": Near(0, 0)}]
     for region in (Window, Inside, Covers, Circle):
         for options in orders:
-            assert listed(tables.query(asked, region, **options)) == expected(one, queries, region, **options)
+            assert listed(tables.query(partitioned, region, **options)) == expected(one, queries, region, **options)
         columns = ["x", "y", "radius"] if region is Circle else SIDES
         counts = one.count_each(queries[columns].to_numpy(), region=region).tolist()
-        assert [*tables.count(asked, region).compute().items()] == [*zip(queries.index, counts)]
+        assert [*tables.count(partitioned, region).compute().items()] == [*zip(queries.index, counts)]
     for k in (0, 1, 4, 1000):
         places, ids, scores = one.nearest_each(queries[["x", "y"]].to_numpy(), k)
-        assert listed(tables.nearest(asked, k)) == [*zip(queries.index[places], ids.tolist(), scores.tolist())]
+        assert listed(tables.nearest(partitioned, k)) == [*zip(queries.index[places], ids.tolist(), scores.tolist())]
 
 
 def test_scores_of_65_bits() -> None:
@@ -116,30 +116,30 @@ def test_floats_and_geometries() -> None:
     floats = frame_of(chance, 120)
     floats[SIDES] = floats[SIDES] / 8
     queries = queries_of(chance, 40) / 8.0
-    asked = dataframe.from_pandas(queries, npartitions=2, sort=False)
+    partitioned = dataframe.from_pandas(queries, npartitions=2, sort=False)
     tables = Boxes(spatial_shuffle(dataframe.from_pandas(floats, npartitions=3, sort=False), 4))
     scaled = floats[SIDES].mul(8).astype("i8").assign(id=floats["id"], layer=0)
-    wanted = expected(Rtfilter(rows_of(scaled)), queries.mul(8).astype("i8"))
-    assert listed(tables.query(asked)) == wanted
-    assert tables.count(asked).compute().sum() == len(wanted)
+    pairs = expected(Rtfilter(rows_of(scaled)), queries.mul(8).astype("i8"))
+    assert listed(tables.query(partitioned)) == pairs
+    assert tables.count(partitioned).compute().sum() == len(pairs)
     shapes = [box(*it) for it in floats[["min_x", "min_y", "max_x", "max_y"]].to_numpy()]
     shaped = geopandas.GeoDataFrame(floats[["id", "name"]], geometry=[*shapes[:-2], None, shapes[-1]])
     others = geopandas.GeoDataFrame({"at": range(40)}, geometry=[box(*it) for it in queries[["min_x", "min_y", "max_x", "max_y"]].to_numpy()])
     parts = [dask.delayed(lambda it: it)(shaped.iloc[at::3]) for at in range(3)]
     frame = dataframe.from_delayed(parts, meta=shaped.iloc[:0])
     tables = Boxes(spatial_shuffle(frame, 3))
-    asked = dataframe.from_delayed([dask.delayed(lambda: others)()], meta=others.iloc[:0])
+    partitioned = dataframe.from_delayed([dask.delayed(lambda: others)()], meta=others.iloc[:0])
     for predicate in ("intersects", "contains", "touches"):
-        joined = tables.join(asked, predicate=predicate).compute()
+        joined = tables.join(partitioned, predicate=predicate).compute()
         same = geopandas.sjoin(others, shaped, predicate=predicate)
         assert sorted(zip(joined["at"], joined["id"])) == sorted(zip(same["at"], same["id"])) and "geometry" in joined
-        assert len(tables.query(asked, predicate=predicate).compute()) == len(joined) == tables.count(asked, predicate=predicate).compute().sum()
+        assert len(tables.query(partitioned, predicate=predicate).compute()) == len(joined) == tables.count(partitioned, predicate=predicate).compute().sum()
     with pytest.raises(TypeError):
-        tables.nearest(asked, 3)
+        tables.nearest(partitioned, 3)
     refused: list[dict[str, Any]] = [{"region": Inside}, {"first": 3}, {"order": Smallest()}, {"on": 1}]
     for options in refused:
         with pytest.raises(TypeError):
-            tables.query(asked, **options)
+            tables.query(partitioned, **options)
 
 
 def test_a_file_that_has_changed(tmp_path: Path) -> None:

@@ -93,39 +93,39 @@ def is_there(it: Any) -> bool:
 def test_predicates_are_those_of_shapely(predicate: str) -> None:
     chance, pairs = random.Random(predicate), 0
     for _ in range(15):
-        held, asked = some_geometries(chance, 60), some_geometries(chance, 40)
+        held, inputs = some_geometries(chance, 60), some_geometries(chance, 40)
         tree = STRtree(held)
-        wanted = [
+        expected = [
             (at, place)
-            for at, one in enumerate(asked)
+            for at, one in enumerate(inputs)
             for place, it in enumerate(held)
             if is_there(one) and is_there(it) and (it.covers(one) if predicate == "covered_by" else getattr(one, predicate)(it))
         ]
-        assert [*zip(*tree.query(asked, predicate).tolist())] == wanted
-        assert tree.query(asked[0], predicate).tolist() == [place for at, place in wanted if at == 0]
-        pairs += len(wanted)
+        assert [*zip(*tree.query(inputs, predicate).tolist())] == expected
+        assert tree.query(inputs[0], predicate).tolist() == [place for at, place in expected if at == 0]
+        pairs += len(expected)
     assert pairs > 20
 
 
 def test_distances_are_those_of_shapely() -> None:
     chance, equal = random.Random(3), 0
     for trial in range(60):
-        held, asked = some_geometries(chance, chance.choice([0, 1, 5, 60])), some_geometries(chance, 25)
+        held, inputs = some_geometries(chance, chance.choice([0, 1, 5, 60])), some_geometries(chance, 25)
         tree, most = STRtree(held), chance.choice([None, None, 0.5, 2.0])
         nearest, distances, near = [], [], []
         reach = chance.choice([0.0, 1.0, 2.5])
-        for at, one in enumerate(asked):
+        for at, one in enumerate(inputs):
             known = [(one.distance(it), place) for place, it in enumerate(held) if is_there(it)] if is_there(one) else []
             least = min(known, default=(0.0, 0))[0]
             nearest += [(at, place) for far, place in known if far == least and (most is None or far <= most)]
             distances += [far for far, place in known if far == least and (most is None or far <= most)]
             near += [(at, place) for far, place in known if far <= reach]
-        found, fars = tree.query_nearest(asked, max_distance=most, return_distance=True)
+        found, fars = tree.query_nearest(inputs, max_distance=most, return_distance=True)
         assert [*zip(*found.tolist())] == nearest and fars.tolist() == distances
         firsts = [*{at: (at, place) for at, place in reversed(nearest)}.values()][::-1]
-        assert [*zip(*tree.query_nearest(asked, max_distance=most, all_matches=False).tolist())] == firsts
-        assert tree.query_nearest(asked[0], max_distance=most).tolist() == [place for at, place in nearest if at == 0]
-        assert [*zip(*tree.query(asked, "dwithin", distance=reach).tolist())] == near
+        assert [*zip(*tree.query_nearest(inputs, max_distance=most, all_matches=False).tolist())] == firsts
+        assert tree.query_nearest(inputs[0], max_distance=most).tolist() == [place for at, place in nearest if at == 0]
+        assert [*zip(*tree.query(inputs, "dwithin", distance=reach).tolist())] == near
         equal += len(nearest) - len({at for at, _ in nearest})
     assert equal > 100
 
@@ -134,9 +134,9 @@ def test_nearest_of_far_and_near_floats() -> None:
     chance = numpy.random.default_rng(4)
     for scale in (1e-200, 1e-9, 1.0, 1e9, 1e150):
         points = [Point(*it) for it in (chance.random((300, 2)) - 0.5) * scale]
-        asked = [Point(*it) for it in (chance.random((40, 2)) - 0.5) * scale * 1.5]
-        found = STRtree(points).query_nearest(asked)
-        for at, one in enumerate(asked):
+        inputs = [Point(*it) for it in (chance.random((40, 2)) - 0.5) * scale * 1.5]
+        found = STRtree(points).query_nearest(inputs)
+        for at, one in enumerate(inputs):
             known = [one.distance(it) for it in points]
             assert found[1][found[0] == at].tolist() == [place for place, far in enumerate(known) if far == min(known)]
 
@@ -187,11 +187,11 @@ def test_joins_are_those_of_geopandas(how: str, predicate: str) -> None:
         right = geopandas.GeoDataFrame({"n": range(30), "b": "x"}, geometry=some_geometries(chance, 30), index=range(100, 130))
         with warnings.catch_warnings():
             warnings.simplefilter("ignore")
-            wanted = geopandas.sjoin(left, right, how=how, predicate=predicate)
+            expected = geopandas.sjoin(left, right, how=how, predicate=predicate)
         found = sjoin(left, right, how=how, predicate=predicate)
-        assert set(found) == set(wanted) and type(found) is type(wanted)
-        assert listed(found) == listed(wanted)
-        assert found.geometry.name == wanted.geometry.name
+        assert set(found) == set(expected) and type(found) is type(expected)
+        assert listed(found) == listed(expected)
+        assert found.geometry.name == expected.geometry.name
         pairs += len(found)
     assert pairs > 10
 
@@ -229,14 +229,14 @@ def test_the_calls_of_shapely_2(monkeypatch: pytest.MonkeyPatch) -> None:
     for name in MIRRORED:
         setattr(stand_in, name, named(name))
     chance = random.Random(8)
-    held, asked = some_geometries(chance, 60), some_geometries(chance, 40)
-    calls: list[Callable[[STRtree], Any]] = [lambda it: it.query(asked), lambda it: it.query_nearest(asked, return_distance=True)]
-    calls += [lambda it, name=name: it.query(asked, name) for name in MIRRORED]  # type: ignore[misc]
-    calls += [lambda it: it.query(asked, "dwithin", distance=1.5), lambda it: it.query_nearest(asked, max_distance=1.0)]
-    wanted = [call(STRtree(held)) for call in calls]
+    held, inputs = some_geometries(chance, 60), some_geometries(chance, 40)
+    calls: list[Callable[[STRtree], Any]] = [lambda it: it.query(inputs), lambda it: it.query_nearest(inputs, return_distance=True)]
+    calls += [lambda it, name=name: it.query(inputs, name) for name in MIRRORED]  # type: ignore[misc]
+    calls += [lambda it: it.query(inputs, "dwithin", distance=1.5), lambda it: it.query_nearest(inputs, max_distance=1.0)]
+    expected = [call(STRtree(held)) for call in calls]
     monkeypatch.setattr(geometry, "shapely", stand_in)
     monkeypatch.setattr(geometry, "IS_TWO", True)
-    for call, it in zip(calls, wanted):
+    for call, it in zip(calls, expected):
         for one, other in zip(call(STRtree(held)), it, strict=True):
             assert numpy.array_equal(one, other)
     assert len(prepared) == len(MIRRORED)

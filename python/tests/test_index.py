@@ -58,8 +58,8 @@ def test_as_plain_numbers(unit: float, is_interleaved: bool) -> None:
             inside = [id for id in inside if boxes[id][3] <= window[3]]
             assert [*index.contains(given(window))] == inside
             if boxes:
-                wanted = chance.choice([1, 2, 10, 1000])
-                assert [*index.nearest(given(window), wanted)] == nearest(boxes, window, wanted)
+                k = chance.choice([1, 2, 10, 1000])
+                assert [*index.nearest(given(window), k)] == nearest(boxes, window, k)
                 assert [*index.nearest(window[:2])] == nearest(boxes, (*window[:2], *window[:2]), 1)
         assert len(index) == count
         low = [min((it[at] for it in boxes.values()), default=math.inf) for at in (0, 1)]

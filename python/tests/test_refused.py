@@ -44,7 +44,7 @@ calls = {
     "polygons": lambda: bytes(_engine.Polygons(*polygons).holds_each(*points)),
 }
 for name, call in calls.items():
-    wanted, refused, at = call(), 0, 0
+    expected, refused, at = call(), 0, 0
     while True:
         at += 1
         refuse_soon.value = at
@@ -55,8 +55,8 @@ for name, call in calls.items():
             refused += 1
         is_over = refuse_soon.value > 0
         refuse_soon.value = 0
-        assert found in (None, wanted), name
-        assert call() == wanted, name
+        assert found in (None, expected), name
+        assert call() == expected, name
         if is_over:
             break
     print(name, at, refused)

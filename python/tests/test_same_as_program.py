@@ -25,11 +25,11 @@ def test_lines(seed: int, tmp_path: Path, run: Run, sound_table: Random, some_li
     table = tmp_path / "table"
     table.write_bytes(sound_table(chance))
     lines = [some_line(chance).replace(b"\n", b"") for _ in range(LINES)]
-    wanted = run(table, b"\n".join(lines) + b"\n")
+    expected = run(table, b"\n".join(lines) + b"\n")
     with Rtfilter(table) as boxes:
-        assert boxes.text(b"\n".join(lines)) == wanted
+        assert boxes.text(b"\n".join(lines)) == expected
         replies = boxes.replies(map(os.fsdecode, lines))
-    assert b"".join(written(at, it) for at, it in enumerate(replies, 1)) == wanted
+    assert b"".join(written(at, it) for at, it in enumerate(replies, 1)) == expected
     assert {type(it) for it in replies} == {Answers, QueryError, type(None)}
 
 
@@ -84,7 +84,7 @@ class Calls:
         return count_line(region, on), lambda it: it.count(region, on=on)
 
 
-def wanted_of(lines: list[str], text: bytes) -> list[Any]:
+def expected_of(lines: list[str], text: bytes) -> list[Any]:
     """What calls give for these lines: a list of pairs, a number, or the code and the text of a fault."""
     found: list[Any] = []
     pairs: list[tuple[int, ...]] = []
@@ -120,20 +120,20 @@ def case(tmp_path: Path, run: Run, sound_table: Random, request: pytest.FixtureR
         text = sound_table(chance)
     table.write_bytes(text)
     lines, calls = zip(*(Calls(chance).some() for _ in range(CALLS)))
-    wanted = wanted_of(list(lines), run(table, "".join(f"{it}\n" for it in lines).encode()))
-    assert len(wanted) == CALLS and {type(it) for it in wanted} == {list, int, tuple}
-    return table, list(calls), wanted
+    expected = expected_of(list(lines), run(table, "".join(f"{it}\n" for it in lines).encode()))
+    assert len(expected) == CALLS and {type(it) for it in expected} == {list, int, tuple}
+    return table, list(calls), expected
 
 
 @pytest.mark.parametrize("case", range(TABLES), indirect=True)
 def test_calls(case: Case) -> None:
-    table, calls, wanted = case
+    table, calls, expected = case
     with Rtfilter(table) as boxes:
-        assert [given_by(boxes, it) for it in calls] == wanted
+        assert [given_by(boxes, it) for it in calls] == expected
 
 
 def test_calls_of_threads(case: Case) -> None:
-    table, calls, wanted = case
+    table, calls, expected = case
     found: list[Any] = [None] * 6
     with Rtfilter(table) as boxes:
 
@@ -145,40 +145,40 @@ def test_calls_of_threads(case: Case) -> None:
             it.start()
         for it in threads:
             it.join()
-    assert found == [wanted] * len(found)
+    assert found == [expected] * len(found)
 
 
 def test_calls_with_asyncio(case: Case) -> None:
-    table, calls, wanted = case
+    table, calls, expected = case
 
     async def ask(boxes: Rtfilter) -> list[Any]:
         return await asyncio.gather(*(asyncio.to_thread(given_by, boxes, it) for it in calls[:300]))
 
     with Rtfilter(table) as boxes:
-        assert asyncio.run(ask(boxes)) == wanted[:300]
+        assert asyncio.run(ask(boxes)) == expected[:300]
 
 
 def test_calls_in_a_child(case: Case) -> None:
-    table, calls, wanted = case
+    table, calls, expected = case
     with Rtfilter(table) as boxes:
         child = os.fork()
         if child == 0:
             status = 3
             try:
-                status = int([given_by(boxes, it) for it in calls] != wanted)
+                status = int([given_by(boxes, it) for it in calls] != expected)
             finally:
                 os._exit(status)
         assert os.waitpid(child, 0)[1] == 0
 
 
 def test_calls_of_a_client(case: Case, serve: Serve) -> None:
-    table, calls, wanted = case
+    table, calls, expected = case
     with Client(serve(table), timeout=60) as boxes:
-        assert [given_by(boxes, it) for it in calls] == wanted
+        assert [given_by(boxes, it) for it in calls] == expected
 
 
 def test_calls_of_a_client_with_asyncio(case: Case, serve: Serve) -> None:
-    table, calls, wanted = case
+    table, calls, expected = case
 
     async def given(boxes: aio.Client, call: Callable[[Any], Any]) -> Any:
         try:
@@ -190,7 +190,7 @@ def test_calls_of_a_client_with_asyncio(case: Case, serve: Serve) -> None:
         async with aio.Client(address, timeout=60) as boxes:
             return await asyncio.gather(*(given(boxes, it) for it in calls))
 
-    assert asyncio.run(ask(serve(table))) == wanted
+    assert asyncio.run(ask(serve(table))) == expected
 
 
 def test_lines_of_a_client(tmp_path: Path, run: Run, serve: Serve, sound_table: Random, some_line: Random) -> None:
@@ -219,12 +219,12 @@ def test_many_at_once(seed: int, tmp_path: Path, run: Run, sound_table: Random) 
             options: Any
             for options, words in (({}, ""), ({"on": 3}, " on 3"), ({"order": Near(1, 2), "first": 3}, " near 1 2 first 3")):
                 text = "".join(f"find {word} {' '.join(map(str, it))}{words}\n" for it in rows.tolist())
-                wanted = [pairs for pairs in wanted_of(text.splitlines(), run(table, text.encode()))]
+                expected = [pairs for pairs in expected_of(text.splitlines(), run(table, text.encode()))]
                 places, ids = boxes.find_each(rows, region=region, **options)
-                assert [*zip(places.tolist(), ids.tolist())] == [(at, id) for at, it in enumerate(wanted) for id, _ in it]
+                assert [*zip(places.tolist(), ids.tolist())] == [(at, id) for at, it in enumerate(expected) for id, _ in it]
             text = "".join(f"count {word} {' '.join(map(str, it))} on 0,3\n" for it in rows.tolist())
-            assert boxes.count_each(rows, region=region, on=[0, 3]).tolist() == wanted_of(text.splitlines(), run(table, text.encode()))
+            assert boxes.count_each(rows, region=region, on=[0, 3]).tolist() == expected_of(text.splitlines(), run(table, text.encode()))
         text = "".join(f"nearest 4 {x} {y}\n" for x, _, y, _ in rows.tolist())
         places, ids, scores = boxes.nearest_each(rows[:, [0, 2]], 4)
-        wanted = wanted_of(text.splitlines(), run(table, text.encode()))
-        assert [*zip(places.tolist(), ids.tolist(), scores.tolist())] == [(at, *it) for at, its in enumerate(wanted) for it in its]
+        expected = expected_of(text.splitlines(), run(table, text.encode()))
+        assert [*zip(places.tolist(), ids.tolist(), scores.tolist())] == [(at, *it) for at, its in enumerate(expected) for it in its]

@@ -56,12 +56,12 @@ def threads_that(*works: Work) -> Iterator[list[BaseException]]:
 
 def test_children_of_forks_in_the_middle_of_calls(table: Rtfilter, windows: Any) -> None:
     single = [Window(*it) for it in windows.tolist()]
-    wanted = [table.find(it) for it in single]
+    expected = [table.find(it) for it in single]
     _, ids = table.find_each(windows)
     counts = table.count_each(windows)
 
     def find() -> None:
-        assert [table.find(it) for it in single] == wanted
+        assert [table.find(it) for it in single] == expected
 
     def find_many() -> None:
         assert numpy.array_equal(table.find_each(windows)[1], ids)
@@ -73,7 +73,7 @@ def test_children_of_forks_in_the_middle_of_calls(table: Rtfilter, windows: Any)
             if child == 0:
                 status = 3
                 try:
-                    is_right = [table.find(it) for it in single[:20]] == wanted[:20]
+                    is_right = [table.find(it) for it in single[:20]] == expected[:20]
                     status = int(not is_right or not numpy.array_equal(table.find_each(windows)[1], ids))
                 finally:
                     os._exit(status)

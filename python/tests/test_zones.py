@@ -58,7 +58,7 @@ def test_points_are_decided_as_by_fractions(span: int) -> None:
         corners = [it for polygon in polygons for part in parts_of(polygon) for ring in part for it in ring]
         points = [(chance.randint(-span, span), chance.randint(-span, span)) for _ in range(30)]
         points += [(min(max(x + chance.randint(-1, 1), -span), span), y) for x, y in chance.choices(corners, k=30)]
-        wanted = [
+        expected = [
             (place, zone)
             for place, point in enumerate(points)
             for zone, polygon in enumerate(polygons)
@@ -66,9 +66,9 @@ def test_points_are_decided_as_by_fractions(span: int) -> None:
         ]
         zones = Zones(polygons)
         places, found = zones.holding_each(points)
-        assert [*zip(places.tolist(), found.tolist())] == wanted
-        assert zones.holding(*points[0]) == [zone for place, zone in wanted if place == 0]
-        held += len(wanted)
+        assert [*zip(places.tolist(), found.tolist())] == expected
+        assert zones.holding(*points[0]) == [zone for place, zone in expected if place == 0]
+        held += len(expected)
     assert held > 1000
 
 
@@ -79,8 +79,8 @@ def test_beside_shapely() -> None:
     rounded = [geometry.Polygon([(round(x), round(y)) for x, y in it.exterior.coords]) for it in polygons]
     points = [(chance.randrange(100), chance.randrange(100)) for _ in range(500)]
     zones = Zones(rounded)
-    wanted = [(at, zone) for at, it in enumerate(points) for zone, polygon in enumerate(rounded) if polygon.covers(geometry.Point(it))]
-    assert [*zip(*(it.tolist() for it in zones.holding_each(points)))] == wanted and len(zones) == 60
+    expected = [(at, zone) for at, it in enumerate(points) for zone, polygon in enumerate(rounded) if polygon.covers(geometry.Point(it))]
+    assert [*zip(*(it.tolist() for it in zones.holding_each(points)))] == expected and len(zones) == 60
 
 
 SQUARE = {"type": "Polygon", "coordinates": [[(0, 0), (0.25, 0), (0.25, 0.25), (0, 0.25), (0, 0)]]}

@@ -250,7 +250,7 @@ def read_lines(asker: socket.socket, count: int) -> bytes:
     return found
 
 
-def told_by_program(table: Path, queries: bytes) -> bytes:
+def output_of_program(table: Path, queries: bytes) -> bytes:
     """What the program writes that is given these bytes alone."""
     return subprocess.run([PROGRAM, table], input=queries, capture_output=True, timeout=60).stdout
 

@@ -9,7 +9,7 @@ import subprocess
 import unittest
 from pathlib import Path
 
-from served import BOXES, FLAGS, SOURCE, TRIES, Case, found, read_lines, table_of, told_by_program, until
+from served import BOXES, FLAGS, SOURCE, TRIES, Case, found, read_lines, table_of, output_of_program, until
 
 CALLS = {"read", "write", "munmap", "brk", "exit_group"}
 ERROR_OF_VALGRIND = 99
@@ -92,18 +92,18 @@ class Confinement(Case):
             self.skipTest("valgrind: not installed")
         program = self.build("-g", "-DUNCONFINED")
         wrapped = Path(self.folder, "rtfilter")
-        told = Path(self.folder, "valgrind")
-        told.mkdir()
+        logs = Path(self.folder, "valgrind")
+        logs.mkdir()
         wrapped.write_text(
             f"#!/bin/sh\nexec valgrind --error-exitcode={ERROR_OF_VALGRIND} --trace-children=yes --leak-check=full "
-            f"--errors-for-leak-kinds=definite --log-file={told}/%p {program} \"$@\"\n"
+            f"--errors-for-leak-kinds=definite --log-file={logs}/%p {program} \"$@\"\n"
         )
         wrapped.chmod(0o700)
         Path(program).with_name("rtfilter-prefork.so").rename(wrapped.with_name("rtfilter-prefork.so"))
         service = self.served(BOXES, "--connections", "2", "--tcp", "0", "--silence", "9", program=str(wrapped))
         queries = b"find all\nx\nnearest 2 12 12\n"
         for _ in range(3):
-            self.assertEqual(service.ask(queries), told_by_program(BOXES, queries))
+            self.assertEqual(service.ask(queries), output_of_program(BOXES, queries))
         with service.connect() as one, service.connect() as two:
             for asker in (one, two):
                 asker.sendall(b"count all\n")
@@ -115,7 +115,7 @@ class Confinement(Case):
         service.logs("status=0 ", 2)
         service.signal(signal.SIGTERM)
         self.assertEqual(service.process.wait(20), 0)
-        reports = [path.read_text() for path in told.iterdir()]
+        reports = [path.read_text() for path in logs.iterdir()]
         self.assertGreaterEqual(len(reports), 7)
         for report in reports:
             # Of a program, which is killed at its end, nothing is told behind the head.

@@ -16,7 +16,7 @@ from pathlib import Path
 
 from served import (
     BOXES, PROGRAM, SERVICE, SYSTEM_PYTHON, Case, Served, all_of, answers, found, read_lines, send, some_pieces,
-    some_queries, table_of, talk, told_by_program, until,
+    some_queries, table_of, talk, output_of_program, until,
 )  # fmt: skip
 
 TOO_LONG_A_LINE = b"error %d Q1 line too long\n"
@@ -53,13 +53,13 @@ int epoll_ctl(int file, int what, int other, struct epoll_event *event)
 
 
 class SameAsProgram(Case):
-    def asked(self, service: Served, seed: int) -> None:
+    def check_replies(self, service: Served, seed: int) -> None:
         """One connection of random lines, cut anywhere."""
         chance = random.Random(seed)
         queries = some_queries(chance, chance.choice([0, 1, 64, 65, 400]))
         asker = socket.create_connection(service.tcp) if seed % 2 else service.connect()
         found = talk(asker, some_pieces(chance, queries))
-        if found != told_by_program(BOXES, queries):
+        if found != output_of_program(BOXES, queries):
             self.different.append(seed)
 
     def test_random_lines(self) -> None:
@@ -67,8 +67,8 @@ class SameAsProgram(Case):
         self.different: list[int] = []
         service = self.served(BOXES, "--tcp", "0")
         for seed in range(40):
-            self.asked(service, seed)
-        with all_of(threading.Thread(target=self.asked, args=(service, seed)) for seed in range(40, 104)):
+            self.check_replies(service, seed)
+        with all_of(threading.Thread(target=self.check_replies, args=(service, seed)) for seed in range(40, 104)):
             pass
         self.assertEqual(self.different, [])
         self.assertEqual(len(service.logs("status=[01] ", 104)), 104)
@@ -85,7 +85,7 @@ class SameAsProgram(Case):
             until(lambda: len(service.connections) == 64, "a process for each")
             for at, (asker, text) in enumerate(zip(askers, texts)):
                 found = talk(asker, [text[at * 10:]])
-                self.assertEqual(found, told_by_program(BOXES, text))
+                self.assertEqual(found, output_of_program(BOXES, text))
 
     def test_options(self) -> None:
         service = self.served(BOXES, "--header", "--fanout", "2", "--max-entries", "4")
@@ -103,8 +103,8 @@ class SameAsProgram(Case):
               for end in (b"", b"\r", b"\n", b"\r\n")),
         ):
             with self.subTest(queries[:20], length=len(queries)):
-                self.assertEqual(service.ask(queries + b"\n" + line), told_by_program(BOXES, queries + b"\n" + line))
-                self.assertEqual(service.ask(queries), told_by_program(BOXES, queries))
+                self.assertEqual(service.ask(queries + b"\n" + line), output_of_program(BOXES, queries + b"\n" + line))
+                self.assertEqual(service.ask(queries), output_of_program(BOXES, queries))
 
     def test_each_line_is_answered_at_once(self) -> None:
         """Who asks writes the next line when it has the reply to the one before."""
@@ -119,7 +119,7 @@ class SameAsProgram(Case):
         service = self.served()
         queries = b"find all\n\n# none\ncount all\r\nx\nnearest 2 12 12"
         found = talk(service.connect(), (queries[at:at + 1] for at in range(len(queries))))
-        self.assertEqual(found, told_by_program(BOXES, queries))
+        self.assertEqual(found, output_of_program(BOXES, queries))
 
     def test_the_log(self) -> None:
         """A line for each connection's end: who it was, with which status, after how long."""
@@ -140,7 +140,7 @@ class SameAsProgram(Case):
 class Askers(Case):
     def test_a_reader_that_leaves_in_mid_answer(self) -> None:
         service = self.served(table_of(self.folder, "many", 0, 50_000))
-        wanted = told_by_program(Path(self.folder, "many"), b"find all first 1000\ncount all\n" * 20)
+        expected = output_of_program(Path(self.folder, "many"), b"find all first 1000\ncount all\n" * 20)
         found: list[bytes] = []
         other = threading.Thread(target=lambda: found.append(service.ask(b"find all first 1000\ncount all\n" * 20)))
         with all_of([other]):
@@ -148,7 +148,7 @@ class Askers(Case):
                 with service.connect() as asker:
                     asker.sendall(b"find all\n" * 100)
                     asker.recv(1000)
-        self.assertEqual(found, [wanted])
+        self.assertEqual(found, [expected])
         self.assertEqual(len(service.logs("status=[45] ", 10)), 10)
         self.assert_well(service)
 
@@ -178,9 +178,9 @@ class Askers(Case):
             time.sleep(0.3)
             # The machine may have other work, but not in each of these rounds.
             self.assertTrue(any(self.worst_wait(service) < 0.05 for _ in range(50)))
-            wanted = answers(0, 100_000) + b"ok 1 100000\n"
+            expected = answers(0, 100_000) + b"ok 1 100000\n"
             for asker in slow:
-                self.assertEqual(read_lines(asker, 100_001)[:len(wanted)], wanted)
+                self.assertEqual(read_lines(asker, 100_001)[:len(expected)], expected)
 
     def worst_wait(self, service: Served) -> float:
         """Seconds that one of 200 lines waits for its reply."""
@@ -204,8 +204,8 @@ class Askers(Case):
                 with contextlib.suppress(ConnectionResetError):  # lines of it were left unread
                     while piece := asker.recv(1 << 18):
                         found += piece
-                wanted = b"".join(answers(0, 100_000) + b"ok %d 100000\n" % at for at in range(1, 9))
-                self.assertTrue(found and wanted.startswith(found))
+                expected = b"".join(answers(0, 100_000) + b"ok %d 100000\n" % at for at in range(1, 9))
+                self.assertTrue(found and expected.startswith(found))
         self.assertNotIn("cannot write", service.log_file.read_text())  # which would have neither a time nor a connection
         self.assert_well(service)
 
@@ -360,7 +360,7 @@ class WantOfRoom(Case):
         self.assert_well(service)
         until(lambda: service.open_files == before, "nothing left open")
 
-    def test_no_room_to_watch_one_more(self) -> None:
+    def test_one_more_than_can_be_watched(self) -> None:
         """The table is exchanged all the same, and who connects is answered."""
         environment, flag = self.preload(NO_EPOLL)
         service = self.served(BOXES, "--health", "0", env=environment)

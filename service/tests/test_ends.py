@@ -48,7 +48,7 @@ class Ends(Case):
         """They come to their end, and a part of a line isn't answered; the second signal waits for nobody."""
         service = self.served(table_of(self.folder, "many", 0, 100_000), "--tcp", "0", "--drain", "60")
         with service.connect() as reading, socket.create_connection(service.tcp) as other, service.connect() as part:
-            wanted = b"".join(answers(0, 100_000) + b"ok %d 100000\n" % at for at in range(1, 5))
+            expected = b"".join(answers(0, 100_000) + b"ok %d 100000\n" % at for at in range(1, 5))
             for asker in (reading, other):
                 asker.settimeout(20)
                 asker.sendall(b"find all\n" * 4)
@@ -58,7 +58,7 @@ class Ends(Case):
             service.signal(signal.SIGTERM)
             self.assertEqual(part.recv(100), b"")
             for asker in (reading, other):
-                self.assertEqual(b"".join(iter(lambda: asker.recv(1 << 18), b"")), wanted[1:])
+                self.assertEqual(b"".join(iter(lambda: asker.recv(1 << 18), b"")), expected[1:])
         self.assertEqual(service.process.wait(20), 0)
         self.assertEqual(len(service.logs(r"^connection \d \(.*\): status=[04] ", 3)), 3)
 
@@ -258,7 +258,7 @@ class Ends(Case):
         until(lambda: len(service.programs) == 1, "the end of the old program")
 
     def test_a_table_that_does_not_load(self) -> None:
-        for text, status, told in (
+        for text, status, message in (
             ("1,1,0,0,0\n", 3, f"{self.folder}/table: table record 1: minimum above maximum in x"),
             (None, 3, f"{self.folder}/table: cannot open table: No such file or directory"),
             ("1,0,1,0,1\n", 2, "rtfilter: bad command line"),
@@ -270,7 +270,7 @@ class Ends(Case):
             words = ["--fanout", "1"] if status == 2 else []
             service = self.served(table, *words)
             self.assertEqual(service.process.wait(10), status)
-            self.assertEqual(service.log, f"listening on {service.path}\n{told}\n")
+            self.assertEqual(service.log, f"listening on {service.path}\n{message}\n")
             self.assertFalse(os.path.exists(service.path))
 
     def test_a_first_load_that_takes_too_long(self) -> None:

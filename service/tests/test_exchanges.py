@@ -10,7 +10,7 @@ import time
 import unittest
 from pathlib import Path
 
-from served import BOXES, PROGRAM, Case, Served, all_of, answers, put_library, read_lines, send, told_by_program, until
+from served import BOXES, PROGRAM, Case, Served, all_of, answers, put_library, read_lines, send, output_of_program, until
 
 
 class Exchanges(Case):
@@ -73,7 +73,7 @@ class Exchanges(Case):
         service = self.served(self.table)
         with service.connect() as old:
             old.sendall(b"find all\n")
-            self.assertEqual(read_lines(old, 6), told_by_program(BOXES, b"find all\n"))
+            self.assertEqual(read_lines(old, 6), output_of_program(BOXES, b"find all\n"))
             self.put("7,0,1,0,1\n")
             service.exchange()
             for at in range(2, 5):
@@ -188,7 +188,7 @@ class Exchanges(Case):
         service = self.served(self.table, "--load-timeout", "0.4")
         before = service.open_files
         with service.connect() as asker:
-            for at, (text, told) in enumerate(
+            for at, (text, reason) in enumerate(
                 (
                     ("1,0,1,0,1\n1,0,1,0,1\n", "table record 2: repeated id"),
                     ("1,1,0,0,1\n", "table record 1: minimum above maximum in x"),
@@ -204,12 +204,12 @@ class Exchanges(Case):
                     self.table.write_text(text)
                 lines = len(service.log.splitlines())
                 service.signal(signal.SIGHUP)
-                service.logs(f"^the new table isn't taken, the old one stays: {self.table}: {told}$")
+                service.logs(f"^the new table isn't taken, the old one stays: {self.table}: {reason}$")
                 asker.sendall(b"count all\n")
                 self.assertEqual(read_lines(asker, 1), b"ok %d 5\n" % at)
                 self.assertEqual(len(service.log.splitlines()), lines + 1)
                 self.assertEqual(len(service.programs), 1)
-                self.assertEqual(service.ask(b"find all"), told_by_program(BOXES, b"find all"))
+                self.assertEqual(service.ask(b"find all"), output_of_program(BOXES, b"find all"))
                 service.logs("status=0 ", at)
             self.table.unlink()
             self.table.write_text("7,0,1,0,1\n")

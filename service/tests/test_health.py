@@ -23,7 +23,7 @@ SAMPLE = r'^rtfilter_[a-z_]+(\{(status|signal)="\d+"\})? \d+(\.\d+)?$'
 HEALTH = b"GET /health HTTP/1.0\r\n"
 
 class Health(Case):
-    def asked(self, service: Served, text: bytes) -> tuple[int, bytes]:
+    def response(self, service: Served, text: bytes) -> tuple[int, bytes]:
         """The status and the text of what is answered to these bytes."""
         with socket.create_connection(service.place("health")) as asker:
             asker.settimeout(20)
@@ -141,8 +141,8 @@ class Health(Case):
             stream = {**os.environ, "JOURNAL_STREAM": f"{status.st_dev}:{status.st_ino}"}
             words = ["--unix", f"{self.folder}/other", "--program", PROGRAM, "/no/such/table"]
             subprocess.run([sys.executable, "-B", SERVICE, *words], stderr=journal, env=stream, timeout=20)
-        told = Path(self.folder, "journal").read_text().splitlines()
-        self.assertEqual(told, [f"listening on {self.folder}/other", "/no/such/table: cannot open table: No such file or directory"])
+        logged = Path(self.folder, "journal").read_text().splitlines()
+        self.assertEqual(logged, [f"listening on {self.folder}/other", "/no/such/table: cannot open table: No such file or directory"])
 
     def test_requests(self) -> None:
         service = self.served(BOXES, "--health", "0")
@@ -151,7 +151,7 @@ class Health(Case):
             (b"GET / HTTP/1.0\r\n\r\n", 404), (b"GET /healthy HTTP/1.0\r\n\r\n", 404),
             (b"POST /health HTTP/1.0\r\n\r\n", 404), (b"\r\n\r\n", 404), (b"\0\xff\n\n", 404), (b"GET\r\n\r\n", 404),
         ):
-            self.assertEqual(self.asked(service, request)[0], status, request)
+            self.assertEqual(self.response(service, request)[0], status, request)
 
     def test_slow_and_silly_ones(self) -> None:
         """Who says nothing, too much, or reads nothing keeps nobody waiting, and is left after some seconds."""

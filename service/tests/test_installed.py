@@ -68,11 +68,11 @@ class Installed(Case):
             text = unit.read_text().replace("/usr/local", str(self.place))
             Path(self.folder, unit.name).write_text(text)
         copies = [Path(self.folder, unit.name) for unit in UNITS]
-        told = self.analyzed("--man=no", "--recursive-errors=no", "verify", *copies)
+        report = self.analyzed("--man=no", "--recursive-errors=no", "verify", *copies)
         # What it says of other units is the machine's affair.
-        self.assertEqual([line for line in told.splitlines() if "rtfilter" in line], [])
-        told = self.analyzed("--no-pager", "security", "--offline=true", copies[1])
-        self.assertLessEqual(float(found(r"exposure level for rtfilter.service: ([\d.]+)", told)[1]), LEAST_EXPOSURE)
+        self.assertEqual([line for line in report.splitlines() if "rtfilter" in line], [])
+        report = self.analyzed("--no-pager", "security", "--offline=true", copies[1])
+        self.assertLessEqual(float(found(r"exposure level for rtfilter.service: ([\d.]+)", report)[1]), LEAST_EXPOSURE)
 
     def analyzed(self, *words: object) -> str:
         command = ["systemd-analyze", *map(str, words)]
@@ -91,16 +91,16 @@ class QuickStart(Case):
         command_file.write_text(f'#!/bin/sh\nexec /usr/bin/python3 -B {ROOT}/service/serve.py --program {PROGRAM} "$@"\n')
         command_file.chmod(0o755)
         served, netcat = re.findall(r"^```\n\$ ((?:rtfilter-serve|printf).*?)^```$", PAGE.read_text(), re.MULTILINE | re.DOTALL)
-        command, *told = served.splitlines()
+        command, *expected = served.splitlines()
         plain = {"PATH": f"{command_file.parent}:{PLAIN['PATH']}"}
         words: dict[str, Any] = {"shell": True, "executable": "/bin/bash", "env": plain, "cwd": self.folder, "text": True}
         started = subprocess.Popen(f"exec {command}", stderr=subprocess.PIPE, **words)
         with started as service, contextlib.ExitStack() as stack:
             stack.callback(service.kill)  # where something fails, nobody waits for its end
             assert service.stderr
-            logged = [service.stderr.readline().rstrip("\n") for _ in told]
-            self.assertEqual([MOMENT.sub("", line) for line in logged], [MOMENT.sub("", line) for line in told])
-            self.assertTrue(all(map(MOMENT.match, [*logged, *told])))
+            logged = [service.stderr.readline().rstrip("\n") for _ in expected]
+            self.assertEqual([MOMENT.sub("", line) for line in logged], [MOMENT.sub("", line) for line in expected])
+            self.assertTrue(all(map(MOMENT.match, [*logged, *expected])))
             command, *shown = netcat.splitlines()
             if has_netcat := shutil.which("nc"):
                 done = subprocess.run(command, stdout=subprocess.PIPE, timeout=60, **words)
@@ -135,7 +135,7 @@ class AsUnit(Case):
         self.assertGreater(len(called), 40)
         self.assertEqual(called - (allowed("@system-service") - allowed("@privileged")), set())
 
-    def test_what_systemd_is_told(self) -> None:
+    def test_what_systemd_receives(self) -> None:
         """READY once the table stands, with its size; RELOADING, and READY again, whether there is a new table or not."""
         with socket.socket(socket.AF_UNIX, socket.SOCK_DGRAM) as systemd:
             systemd.bind(f"{self.folder}/notify")
@@ -144,19 +144,19 @@ class AsUnit(Case):
             table.write_bytes(BOXES.read_bytes())
             service = self.served(table, env={**os.environ, "NOTIFY_SOCKET": f"{self.folder}/notify"})
             self.assertEqual(systemd.recv(1000), b"READY=1\nSTATUS=5 boxes")
-            for text, told in (("7,0,1,0,1\n", b"READY=1\nSTATUS=1 boxes"), ("nonsense\n", b"READY=1")):
+            for text, notice in (("7,0,1,0,1\n", b"READY=1\nSTATUS=1 boxes"), ("nonsense\n", b"READY=1")):
                 table.write_text(text)
                 service.signal(signal.SIGHUP)
                 self.assertRegex(systemd.recv(1000), rb"^RELOADING=1\nMONOTONIC_USEC=\d+$")
-                self.assertEqual(systemd.recv(1000), told)
+                self.assertEqual(systemd.recv(1000), notice)
             service.signal(signal.SIGTERM)
             self.assertEqual(systemd.recv(1000), b"STOPPING=1")
 
 
 def allowed(name: str) -> set[str]:
     """The calls of a set of systemd's, and of those that it names."""
-    told = subprocess.run(["systemd-analyze", "syscall-filter", name], stdout=subprocess.PIPE, text=True, check=True).stdout
-    names = [line.strip() for line in told.splitlines()[1:] if line.strip() and not line.strip().startswith("#")]
+    listing = subprocess.run(["systemd-analyze", "syscall-filter", name], stdout=subprocess.PIPE, text=True, check=True).stdout
+    names = [line.strip() for line in listing.splitlines()[1:] if line.strip() and not line.strip().startswith("#")]
     return {call for it in names for call in (allowed(it) if it.startswith("@") else {it})}
 
 

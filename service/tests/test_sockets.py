@@ -37,7 +37,7 @@ class Sockets(Case):
     def test_mode(self) -> None:
         self.assertEqual(self.mode_of(), 0o600)
 
-    def test_mode_that_is_asked_for(self) -> None:
+    def test_mode_of_the_option(self) -> None:
         self.assertEqual(self.mode_of("--mode", "660"), 0o660)
 
     def test_a_path_that_was_left(self) -> None:
@@ -49,8 +49,8 @@ class Sockets(Case):
         link = Path(self.folder, "link")
         link.symlink_to(Path(self.folder, "nowhere"))
         for path in (service.path, str(BOXES), str(link)):
-            told = f"rtfilter-serve: [Errno 98] Address already in use: '{path}'\n"
-            self.assertEqual(run("--unix", path, BOXES), (1, told))
+            message = f"rtfilter-serve: [Errno 98] Address already in use: '{path}'\n"
+            self.assertEqual(run("--unix", path, BOXES), (1, message))
         self.assert_well(service)
 
     def test_a_backlog_that_is_full(self) -> None:
@@ -125,8 +125,8 @@ class Sockets(Case):
         fcntl.flock(folder, fcntl.LOCK_EX)
         service.signal(signal.SIGTERM)
         path = f"{self.folder}/other"
-        told = f"rtfilter-serve: [Errno 11] Resource temporarily unavailable: '{path}'\n"
-        self.assertEqual(run("--unix", path, BOXES), (1, told))
+        message = f"rtfilter-serve: [Errno 11] Resource temporarily unavailable: '{path}'\n"
+        self.assertEqual(run("--unix", path, BOXES), (1, message))
         self.assertEqual(service.process.wait(10), 0)
         self.assertEqual((os.path.exists(service.path), os.path.exists(path)), (True, False))
 
@@ -137,9 +137,9 @@ class Sockets(Case):
         with socket.create_server(("127.0.0.1", 0)) as taken:
             for option in ("--tcp", "--health"):
                 words = ["--unix", Path(self.folder, "socket"), option, taken.getsockname()[1], table]
-                status, told = run(*words)
+                status, output = run(*words)
                 self.assertEqual(status, 1)
-                self.assertRegex(told, r"^rtfilter-serve: \[Errno 98\] Address already in use.*\n$")
+                self.assertRegex(output, r"^rtfilter-serve: \[Errno 98\] Address already in use.*\n$")
         self.assertFalse(os.path.exists(Path(self.folder, "socket")))
 
     def test_loopback(self) -> None:
@@ -213,13 +213,13 @@ class Sockets(Case):
         library.rename(lib / library.name)
         self.assert_well(self.served(program=str(program)))
         (lib / library.name).unlink()
-        told = f"rtfilter-serve: no program {program}, or no rtfilter-prefork.so with it\n"
-        self.assertEqual(run("--unix", f"{self.folder}/other", "--program", program, BOXES), (1, told))
+        message = f"rtfilter-serve: no program {program}, or no rtfilter-prefork.so with it\n"
+        self.assertEqual(run("--unix", f"{self.folder}/other", "--program", program, BOXES), (1, message))
 
     def test_nowhere_to_listen(self) -> None:
-        status, told = run(BOXES)
+        status, output = run(BOXES)
         self.assertEqual(status, 2)
-        self.assertIn("nowhere to listen", told)
+        self.assertIn("nowhere to listen", output)
 
     def test_bad_options(self) -> None:
         path = Path(self.folder, "socket")
@@ -227,8 +227,8 @@ class Sockets(Case):
             ["--mode", "1000"], ["--mode", "x"], ["--connections", "0"], ["--connections", "1048577"], ["--silence", "-1"],
             ["--patience", "inf"], ["--drain", "nan"], ["--load-timeout", "x"], ["--tcp", "x:y"], ["--health", "70000"],
         ):
-            status, told = run("--unix", path, *words, BOXES)
-            self.assertEqual((status, told.splitlines()[-1][:22]), (2, f"rtfilter-serve: error:"), words)
+            status, output = run("--unix", path, *words, BOXES)
+            self.assertEqual((status, output.splitlines()[-1][:22]), (2, f"rtfilter-serve: error:"), words)
 
 
 class Surroundings(Case):
@@ -262,9 +262,9 @@ class Surroundings(Case):
                 self.assertEqual(len(children_of(program)), 2)
                 os.kill(program, signal.SIGKILL)
                 service.logs("^ready again", at)
-            told = Path(f"/proc/{own}/task/{own}/children").read_text().split()
-            self.assertEqual(told, [str(process) for process in children_of(own)])
-            self.assertEqual(len(told), 1)
+            listed = Path(f"/proc/{own}/task/{own}/children").read_text().split()
+            self.assertEqual(listed, [str(process) for process in children_of(own)])
+            self.assertEqual(len(listed), 1)
 
     def test_signals_that_are_blocked_or_ignored(self) -> None:
         """Whoever starts it may have blocked all signals, or have had these ignored."""

@@ -55,11 +55,11 @@ class Gate(unittest.TestCase):
     def test_what_is_installed(self) -> None:
         """What isn't there, in one step, and nothing where all is."""
         self.assertEqual(self.run_script("tests/packages"), (0, [], []))
-        status, told, calls = self.run_script("tests/packages", lacking="chromium mypy")
-        self.assertEqual((status, told), (0, []))
+        status, output, calls = self.run_script("tests/packages", lacking="chromium mypy")
+        self.assertEqual((status, output), (0, []))
         self.assertRegex("\n".join(calls), "^apt-get .*update\napt-get .*install .* chromium mypy$")
-        status, told, _ = self.run_script("tests/packages", lacking="mypy", NO_NETWORK="1")
-        self.assertEqual((status, told), (1, ["not installed: mypy"]))
+        status, output, _ = self.run_script("tests/packages", lacking="mypy", NO_NETWORK="1")
+        self.assertEqual((status, output), (1, ["not installed: mypy"]))
         _, _, calls = self.run_script("tests/packages", lacking="mypy", USER_ID="1000")
         self.assertRegex(calls[0], "^sudo env .* apt-get .*update$")
         self.assertEqual(self.run_script("tests/packages", "--missing", lacking="mypy jq"), (0, ["jq mypy"], []))
@@ -69,16 +69,16 @@ class Gate(unittest.TestCase):
     def test_the_gate_goes_on(self) -> None:
         """As root it installs first. Where that fails, and for any other user, it goes on."""
         for no_network, user, count in (("", "0", 3), ("1", "0", 3), ("", "1000", 1)):
-            status, told, calls = self.run_script(".ci/run", lacking="mypy", NO_NETWORK=no_network, USER_ID=user)
-            self.assertEqual((status, len(calls), calls[-1]), (0, count, "make --no-print-directory test"), told)
+            status, output, calls = self.run_script(".ci/run", lacking="mypy", NO_NETWORK=no_network, USER_ID=user)
+            self.assertEqual((status, len(calls), calls[-1]), (0, count, "make --no-print-directory test"), output)
 
     def test_what_is_not_tried_is_named(self) -> None:
         """In the last lines but one, which has the numbers."""
-        status, told, _ = self.run_script("tests/run", lacking="mypy chromium")
-        self.assertEqual(status, 0, told)
+        status, output, _ = self.run_script("tests/run", lacking="mypy chromium")
+        self.assertEqual(status, 0, output)
         named = ["Not tried:", "skipped test_pages: chromium: not installed", "Not installed (make test-packages): chromium mypy"]
-        self.assertEqual(told[-4:-1], named)
-        self.assertRegex(told[-1], r"^\d+ passed, 0 failed$")
+        self.assertEqual(output[-4:-1], named)
+        self.assertRegex(output[-1], r"^\d+ passed, 0 failed$")
 
     def test_the_list(self) -> None:
         """It is in order, without a name twice."""

@@ -36,8 +36,8 @@ class Recipes(unittest.TestCase):
         missing = sorted(tool for tool in tools if shutil.which(tool) is None)
         if missing:
             self.skipTest(f"{', '.join(missing)}: not installed")
-        room = Path(self.enterContext(tempfile.TemporaryDirectory()))
-        path, folder = room / "bin", room / "examples"
+        scratch = Path(self.enterContext(tempfile.TemporaryDirectory()))
+        path, folder = scratch / "bin", scratch / "examples"
         shutil.copytree(DATA, folder)
         path.mkdir()
         (path / "rtfilter").symlink_to(PROGRAM)

@@ -37,9 +37,9 @@ use std::os::unix::ffi::OsStrExt;
 use std::path::Path;
 use std::{io, ptr, slice};
 
-/// Room for answers that a call begins with: so much in all, or for each query.
-const FIRST_ROOM: usize = 256;
-const ROOM_OF_A_QUERY: usize = 32;
+/// Capacity for answers that a call begins with: so much in all, or for each query.
+const FIRST_CAPACITY: usize = 256;
+const CAPACITY_OF_A_QUERY: usize = 32;
 
 /// An open session. Each call needs it alone; [`Session::share`] makes one more on the same table, for another thread.
 ///
@@ -216,17 +216,17 @@ impl Session {
         ends: &mut [usize],
     ) -> Result<(), Error> {
         let (mut first, mut skip) = (0, 0);
-        let mut room = FIRST_ROOM.max(ROOM_OF_A_QUERY * queries.len());
+        let mut capacity = FIRST_CAPACITY.max(CAPACITY_OF_A_QUERY * queries.len());
         loop {
             let at = ids.len();
-            ids.reserve(room);
+            ids.reserve(capacity);
             let mut part = ffi::Answers {
                 ids: ids.spare_capacity_mut().as_mut_ptr().cast(),
                 scores: scores.as_mut().map_or(ptr::null_mut(), |it| {
-                    it.reserve(room);
+                    it.reserve(capacity);
                     it.spare_capacity_mut().as_mut_ptr().cast()
                 }),
-                capacity: room,
+                capacity,
                 ends: ends[first..].as_mut_ptr(),
                 done: 0,
                 found: 0,
@@ -249,7 +249,7 @@ impl Session {
             // (what is there of the answers of a query that has more: as rtfilter_continue has it)
             skip = if part.done == 0 { skip + part.found } else { ids.len() - ends[done - 1] };
             first = done;
-            room = self.left(&queries[first..], vertices, first)? - skip;
+            capacity = self.left(&queries[first..], vertices, first)? - skip;
         }
     }
 

@@ -106,7 +106,7 @@ const look = latest(async () => {
   const view = isNoLayerChosen() ? {fault: "no layer is chosen"} : await get("view", {x1, x2, y1, y2, ...on});
   shown.view = view;
   say("view-line", line);
-  say("view-told", view.fault ?? `${view.count} boxes${view.boxes ? "" : ", shown as counts"}`);
+  say("view-reply", view.fault ?? `${view.count} boxes${view.boxes ? "" : ", shown as counts"}`);
   draw();
 });
 
@@ -116,7 +116,7 @@ const lookNear = latest(async ({x, y}) => {
   const reply = isNoLayerChosen() ? {fault: "no layer is chosen"} : await get("ask", {q: line});
   shown.nearest = reply.answers?.[0] ?? null;
   say("near-line", line);
-  say("near-told", reply.fault ?? reply.answers.map(wordsOf).join() + costOf(reply));
+  say("near-reply", reply.fault ?? reply.answers.map(wordsOf).join() + costOf(reply));
   draw();
 });
 
@@ -134,9 +134,9 @@ function tell(line, reply, count) {
   const answers = reply.answers ?? [];
   shown.answers = answers.filter(answer => answer.box);
   const total = count?.total === undefined ? `ok, ${reply.total}` : `${reply.total} of ${count.total} boxes`;
-  say("told", reply.fault ?? total + costOf(reply));
+  say("line-reply", reply.fault ?? total + costOf(reply));
   if (shown.answers.length > 0 && !shown.answers.some(answer => isInView(answer.box))) moveTo(shown.answers[0].box);
-  element("told").dataset.line = line;
+  element("line-reply").dataset.line = line;
   element("answers").replaceChildren(...answers.map(rowOf));
 }
 
@@ -356,7 +356,7 @@ async function start() {
   fit();
   about = await get("about");
   if (about.fault !== undefined) {
-    say("view-told", about.fault);
+    say("view-reply", about.fault);
     return;
   }
   const [x1, x2, y1, y2] = about.bounds;

@@ -64,13 +64,13 @@ class Chromium:
             message["sessionId"] = self._session
         os.write(self._input, json.dumps(message).encode() + b"\0")
         while True:
-            told = self._message(method)
-            if told.get("method") in FAULTS:
-                self.faults.append(told["params"])
-            if told.get("id") == self._number:
-                if "error" in told:
-                    raise RuntimeError(f"{method}: {told['error']}")
-                result: dict[str, Any] = told["result"]
+            answer = self._message(method)
+            if answer.get("method") in FAULTS:
+                self.faults.append(answer["params"])
+            if answer.get("id") == self._number:
+                if "error" in answer:
+                    raise RuntimeError(f"{method}: {answer['error']}")
+                result: dict[str, Any] = answer["result"]
                 return result
 
     def _message(self, method: str) -> dict[str, Any]:
@@ -88,10 +88,10 @@ class Chromium:
 
     def value(self, expression: str) -> Any:
         """The value of an expression of JavaScript in the page."""
-        told = self.call("Runtime.evaluate", expression=expression, awaitPromise=True, returnByValue=True)
-        if "exceptionDetails" in told:
-            raise RuntimeError(told["exceptionDetails"])
-        return told["result"].get("value")
+        evaluated = self.call("Runtime.evaluate", expression=expression, awaitPromise=True, returnByValue=True)
+        if "exceptionDetails" in evaluated:
+            raise RuntimeError(evaluated["exceptionDetails"])
+        return evaluated["result"].get("value")
 
     def until(self, expression: str) -> Any:
         """The value of an expression once it is true."""

@@ -55,11 +55,11 @@ def _of_layers(style: dict[str, Any], tile_json: dict[str, Any]) -> Iterator[str
                 yield f"{at}: {name}"
 
 
-def _is(wanted: str, value: Any) -> bool:
+def _is(kind: str, value: Any) -> bool:
     """Whether a value of a paint property is of a kind."""
-    if wanted == "color":
+    if kind == "color":
         return isinstance(value, str) and COLOUR.fullmatch(value) is not None
-    if wanted == "truth":
+    if kind == "truth":
         return isinstance(value, bool)
     return _is_number(value) and 0 <= value <= 1
 
@@ -78,19 +78,19 @@ def _is_filter(value: Any) -> bool:
     return compares and value[1][:1] == ["get"] and [*map(type, value[1])] == [str, str]
 
 
-def _of_tile_json(told: dict[str, Any]) -> Iterator[str]:
-    is_known = re.fullmatch(r"3\.\d+\.\d+", told.get("tilejson", "")) is not None
-    if not is_known or told.get("scheme", "xyz") not in ("xyz", "tms"):
+def _of_tile_json(tile_json: dict[str, Any]) -> Iterator[str]:
+    is_known = re.fullmatch(r"3\.\d+\.\d+", tile_json.get("tilejson", "")) is not None
+    if not is_known or tile_json.get("scheme", "xyz") not in ("xyz", "tms"):
         yield "tilejson, or scheme"
-    if not told.get("tiles") or not all("{z}" in it and "{x}" in it and "{y}" in it for it in told["tiles"]):
+    if not tile_json.get("tiles") or not all("{z}" in it and "{x}" in it and "{y}" in it for it in tile_json["tiles"]):
         yield "tiles"
-    for layer in told["vector_layers"]:
+    for layer in tile_json["vector_layers"]:
         fields = layer.get("fields")
-        is_told = isinstance(fields, dict) and all(isinstance(it, str) for it in fields.values())
-        if not isinstance(layer.get("id"), str) or not is_told:
+        has_fields = isinstance(fields, dict) and all(isinstance(it, str) for it in fields.values())
+        if not isinstance(layer.get("id"), str) or not has_fields:
             yield "vector_layers"
-    least, most = told["minzoom"], told["maxzoom"]
-    west, south, east, north = told["bounds"]
-    x, y, z = told["center"]
+    least, most = tile_json["minzoom"], tile_json["maxzoom"]
+    west, south, east, north = tile_json["bounds"]
+    x, y, z = tile_json["center"]
     if not (0 <= least <= z <= most <= 30 and -180 <= west <= x <= east <= 180 and -90 <= south <= y <= north <= 90):
         yield "levels, bounds or center"

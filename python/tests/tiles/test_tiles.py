@@ -9,7 +9,7 @@ import tempfile
 import unittest
 from pathlib import Path
 
-from tiles_support import HOSTILE_LAYER, HOSTILE_NAME, Mapped, Server, ids_told, make_map, number_told, told, wants
+from tiles_support import HOSTILE_LAYER, HOSTILE_NAME, Mapped, Server, ids_of, make_map, number_of, replies_of, wants
 
 from rtfilter.tiles.mercator import DEEPEST, HALF, cells_of, cuts, window_of
 
@@ -90,14 +90,14 @@ class Tiles(Mapped):
             if self.is_density(z, x, y, ""):
                 continue
             features = self.features(z, x, y)
-            self.assertEqual(len(features), number_told(self.table, f"count {line}"), line)
+            self.assertEqual(len(features), number_of(self.table, f"count {line}"), line)
             ids = [int(properties["mvt_id"]) for _, properties, _ in features]
-            self.assertEqual(sorted(ids), ids_told(self.table, f"find {line}"))
+            self.assertEqual(sorted(ids), ids_of(self.table, f"find {line}"))
             for id, (layer, _, box) in zip(ids, features):
                 self.assertEqual(layer, layers[rows[id - 1][5]])
                 self.assert_near(box, rows[id - 1][1:5], window)
             on = [int(properties["mvt_id"]) for _, properties, _ in self.features(z, x, y, "?on=3,5")]
-            self.assertEqual(sorted(on), ids_told(self.table, f"find {line} on 3,5"))
+            self.assertEqual(sorted(on), ids_of(self.table, f"find {line} on 3,5"))
             seen += 1
         self.assertGreater(seen, 4)
 
@@ -107,20 +107,20 @@ class Tiles(Mapped):
         unit = (window[1] - window[0] + 1) / 4096
         for at, (found, side) in enumerate(zip(box, sides)):
             low, high = (window[0], window[1]) if at < 2 else (window[2], window[3])
-            wanted = min(max(side, low - 64 * unit), high + 64 * unit)
-            self.assertLessEqual(abs(found * 100 - wanted), 1.6 * unit + 2, (box, sides, window))
+            expected = min(max(side, low - 64 * unit), high + 64 * unit)
+            self.assertLessEqual(abs(found * 100 - expected), 1.6 * unit + 2, (box, sides, window))
 
     def test_a_tile_of_too_many_boxes_has_counts(self) -> None:
         tiles = [(0, 0, 0), *((6, x, y) for x in (31, 32) for y in (31, 32))]
-        counts = [number_told(self.table, "count window %d %d %d %d" % window_of(*tile)) for tile in tiles]
+        counts = [number_of(self.table, "count window %d %d %d %d" % window_of(*tile)) for tile in tiles]
         full = [tile for tile, count in zip(tiles, counts) if count > 5000]
         self.assertGreater(len(full), 1)
         for z, x, y in full:
             across, along = (cuts(*interval, 32) for interval in (window_of(z, x, y)[:2], window_of(z, x, y)[2:]))
-            replies = told(self.table, ["count window %d %d %d %d" % cell for cell in cells_of(across, along)])
-            wanted = [count for reply in replies if (count := int(reply[0].split()[2]))]
+            replies = replies_of(self.table, ["count window %d %d %d %d" % cell for cell in cells_of(across, along)])
+            expected = [count for reply in replies if (count := int(reply[0].split()[2]))]
             features = self.features(z, x, y)
-            self.assertEqual([int(properties["count"]) for _, properties, _ in features], wanted)
+            self.assertEqual([int(properties["count"]) for _, properties, _ in features], expected)
             self.assertEqual({layer for layer, _, _ in features}, {"density"})
 
     def test_counts_are_those_of_a_whole_level(self) -> None:
@@ -214,15 +214,15 @@ class SomeViews(Mapped):
             view = self.json("/view?x1=%d&x2=%d&y1=%d&y2=%d" % window + (f"&on={on}" if on else ""))
             words = f" on {on}" if on else ""
             line = "window %d %d %d %d" % window + words
-            self.assertEqual(view["count"], number_told(self.table, f"count {line}"))
+            self.assertEqual(view["count"], number_of(self.table, f"count {line}"))
             if "boxes" in view:
                 with_boxes += 1
                 shown = [[int(box["id"]), *box["box"], box["layer"]] for box in view["boxes"]]
-                self.assertEqual(shown, [rows[id - 1] for id in ids_told(self.table, f"find {line}")])
+                self.assertEqual(shown, [rows[id - 1] for id in ids_of(self.table, f"find {line}")])
             else:
                 with_counts += 1
                 cells = cells_of(view["across"], view["along"])
-                counts = told(self.table, ["count window %d %d %d %d" % cell + words for cell in cells])
+                counts = replies_of(self.table, ["count window %d %d %d %d" % cell + words for cell in cells])
                 self.assertEqual(view["counts"], [int(reply[0].split()[2]) for reply in counts])
                 self.assertEqual((cells[0][0], cells[-1][1], cells[0][2], cells[-1][3]), window)
         self.assertGreater(min(with_boxes, with_counts), 5)
@@ -230,13 +230,13 @@ class SomeViews(Mapped):
 
 class Maps(unittest.TestCase):
     def test_the_same_seed_makes_the_same_map(self) -> None:
-        room = Path(self.enterContext(tempfile.TemporaryDirectory()))
+        folder = Path(self.enterContext(tempfile.TemporaryDirectory()))
         for name, seed in ("one", 1), ("again", 1), ("other", 2):
-            make_map(room / name, 2000, seed)
+            make_map(folder / name, 2000, seed)
         for name in ("boxes.csv", "names.csv", "layers.csv"):
-            self.assertEqual((room / "one" / name).read_bytes(), (room / "again" / name).read_bytes())
-        self.assertNotEqual((room / "one/boxes.csv").read_bytes(), (room / "other/boxes.csv").read_bytes())
-        self.assertEqual(number_told(room / "one/boxes.csv", "count all"), 2000)
+            self.assertEqual((folder / "one" / name).read_bytes(), (folder / "again" / name).read_bytes())
+        self.assertNotEqual((folder / "one/boxes.csv").read_bytes(), (folder / "other/boxes.csv").read_bytes())
+        self.assertEqual(number_of(folder / "one/boxes.csv", "count all"), 2000)
 
 
 def copy_map(table: Path) -> None:
@@ -273,7 +273,7 @@ class Cost(unittest.TestCase):
                     break
             self.assertLessEqual(seconds, MOST_SECONDS)
             cells = cells_of(view["across"], view["along"])
-            counts = told(folder / "boxes.csv", ["count window %d %d %d %d" % cell for cell in cells])
+            counts = replies_of(folder / "boxes.csv", ["count window %d %d %d %d" % cell for cell in cells])
             self.assertEqual(view["counts"], [int(reply[0].split()[2]) for reply in counts])
 
 

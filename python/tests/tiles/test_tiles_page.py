@@ -6,7 +6,7 @@ import unittest
 from collections.abc import Sequence
 
 from chromium import Chromium
-from tiles_support import BOXES, HOSTILE_LAYER, HOSTILE_NAME, Mapped, ids_told, number_told, told, wants
+from tiles_support import BOXES, HOSTILE_LAYER, HOSTILE_NAME, Mapped, ids_of, number_of, replies_of, wants
 
 
 class Page(Mapped):
@@ -22,7 +22,7 @@ class Page(Mapped):
     def setUp(self) -> None:
         self.browser.faults.clear()
         self.browser.open(self.server.address)
-        self.browser.until("document.getElementById('view-told')?.textContent")
+        self.browser.until("document.getElementById('view-reply')?.textContent")
 
     def tearDown(self) -> None:
         self.assertEqual(self.browser.faults, [])
@@ -59,30 +59,30 @@ class Page(Mapped):
 
     def assert_places(self, numbers: Sequence[str | float], *pixels: tuple[int, int]) -> None:
         """Coordinates are the places of these pixels, but for rounding."""
-        wanted = [number for pixel in pixels for number in self.place_of(*pixel)]
-        self.assertEqual(len(numbers), len(wanted))
-        for number, place in zip(numbers, wanted):
+        expected = [number for pixel in pixels for number in self.place_of(*pixel)]
+        self.assertEqual(len(numbers), len(expected))
+        for number, place in zip(numbers, expected):
             self.assertAlmostEqual(float(number), place, delta=3)
 
     def assert_answer(self, begins: str, ends: str = " first 1000") -> list[str]:
         """The answer that is shown is the program's, and isn't empty. Gives the words of its line."""
         line: str = self.browser.until("document.getElementById('line').value")
-        self.browser.until(f"document.getElementById('told').dataset.line === {json.dumps(line)}")
+        self.browser.until(f"document.getElementById('line-reply').dataset.line === {json.dumps(line)}")
         self.assertTrue(line.startswith(begins), line)
         cells = "[...row.cells].slice(0, 2).map(cell => cell.textContent).join(' ')"
         rows = self.browser.value(f"[...document.querySelectorAll('#answers tr')].map(row => {cells})")
         counting = line.replace("find", "count", 1).replace(ends, "")
-        answers, cost, count = told(self.table, [line, f"cost {line}", counting])
+        answers, cost, count = replies_of(self.table, [line, f"cost {line}", counting])
         self.assertEqual(rows, answers[:-1], line)
         self.assertGreater(len(rows), 0, line)
         nodes, all_boxes = (reply[-1].split()[2] for reply in (cost, count))
-        self.assertEqual(self.text("told"), f"{len(rows)} of {all_boxes} boxes; the query opens {nodes} nodes")
+        self.assertEqual(self.text("line-reply"), f"{len(rows)} of {all_boxes} boxes; the query opens {nodes} nodes")
         return line.split()
 
     def assert_view(self) -> int:
         """The number of boxes in view that is shown is the program's."""
-        line, text = self.texts("view-line", "view-told")
-        count = number_told(self.table, line)
+        line, text = self.texts("view-line", "view-reply")
+        count = number_of(self.table, line)
         self.assertIn(text, (f"{count} boxes", f"{count} boxes, shown as counts"))
         return count
 
@@ -108,7 +108,7 @@ class Page(Mapped):
         _, _, x, same_x, y, same_y, *_ = self.assert_answer("find covers ", " smallest first 1000")
         self.assertEqual((x, y), (same_x, same_y))
         self.assert_places([x, y], pixel)
-        self.browser.until("document.getElementById('near-told').textContent")
+        self.browser.until("document.getElementById('near-reply').textContent")
         self.assert_nearest(*pixel)
         line = self.browser.value("document.getElementById('line').value")
         self.browser.drag((300, 300), (350, 300))  # which is none
@@ -185,16 +185,16 @@ class Page(Mapped):
             self.browser.click(*corner)
         self.assert_places(self.assert_answer("find polygon 3 ")[3:-2], *corners[:3])
         self.browser.click(*corners[3])
-        self.browser.until("document.getElementById('told').dataset.line.startsWith('find polygon 4 ')")
+        self.browser.until("document.getElementById('line-reply').dataset.line.startsWith('find polygon 4 ')")
         self.assert_places(self.assert_answer("find polygon 4 ")[3:-2], *corners)
 
     def test_a_polygon_that_is_not_convex(self) -> None:
         self.choose("polygon")
         for corner in (200, 200), (450, 200), (300, 250), (300, 500):
             self.browser.click(*corner)
-        self.browser.until("(document.getElementById('told').dataset.line ?? '').startsWith('find polygon 4 ')")
+        self.browser.until("(document.getElementById('line-reply').dataset.line ?? '').startsWith('find polygon 4 ')")
         line = self.browser.value("document.getElementById('line').value")
-        self.assertEqual(told(self.table, [line]), [[f"error 1 {self.text('told')}"]])
+        self.assertEqual(replies_of(self.table, [line]), [[f"error 1 {self.text('line-reply')}"]])
 
     def test_layers(self) -> None:
         for layer in (0, 4, 5):
@@ -210,14 +210,14 @@ class Page(Mapped):
         self.assert_nearest(333, 222)
         for layer in (1, 2, 3):
             self.browser.value(f"document.querySelector('#layers input[value=\"{layer}\"]').click()")
-        self.browser.until("document.getElementById('view-told').textContent === 'no layer is chosen'")
+        self.browser.until("document.getElementById('view-reply').textContent === 'no layer is chosen'")
 
     def assert_nearest(self, across: int, down: int) -> None:
         """The nearest box to a pixel that is shown is the program's."""
-        line, text = self.texts("near-line", "near-told")
+        line, text = self.texts("near-line", "near-reply")
         words = line.removesuffix(" first 1").split()
         self.assert_places(words[-2:], (across, down))
-        answers, cost = told(self.table, [line, f"cost {line}"])
+        answers, cost = replies_of(self.table, [line, f"cost {line}"])
         self.assertTrue(text.startswith(answers[0]), text)
         self.assertTrue(text.endswith(f"; the query opens {cost[0].split()[2]} nodes"), text)
 
@@ -228,12 +228,12 @@ class Page(Mapped):
             self.browser.mouse("mouseMoved", x, y)
             self.await_change("near-line", before)
             self.assert_nearest(x, y)
-            seen.add(self.text("near-told"))
+            seen.add(self.text("near-reply"))
         self.assertEqual(len(seen), 4)
 
     def test_moving_and_zooming_until_boxes_show(self) -> None:
         self.assertEqual(self.assert_view(), BOXES)
-        self.assertIn("shown as counts", self.text("view-told"))
+        self.assertIn("shown as counts", self.text("view-reply"))
         before, middle = self.text("view-line"), self.place_of(350, 300)
         self.browser.drag((350, 300), (250, 260))
         self.await_change("view-line", before)
@@ -242,7 +242,7 @@ class Page(Mapped):
         town = self.json("/ask?q=find+all+on+0+first+1")["answers"][0]["box"]
         across, down = self.pixel_of((town[0] + town[1]) / 2, (town[2] + town[3]) / 2)
         for _ in range(30):
-            if "counts" not in self.text("view-told"):
+            if "counts" not in self.text("view-reply"):
                 break
             before, under = self.text("view-line"), self.place_of(across, down)
             self.browser.wheel(across, down, -300)
@@ -251,7 +251,7 @@ class Page(Mapped):
         self.assertGreater(self.assert_view(), 0)
         ids = "shown.view.boxes.map(box => box.id)"
         line, shown = self.browser.value(f"[document.getElementById('view-line').textContent, {ids}]")
-        self.assertEqual([*map(int, shown)], ids_told(self.table, line.replace("count", "find")))
+        self.assertEqual([*map(int, shown)], ids_of(self.table, line.replace("count", "find")))
         self.assert_painted()
 
     def assert_painted(self) -> None:
@@ -273,17 +273,17 @@ class Page(Mapped):
         """What the page tells of a line that is typed."""
         self.browser.value("document.getElementById('line').value = ''; document.getElementById('line').focus()")
         self.browser.type(line)
-        self.browser.until(f"document.getElementById('told').dataset.line === {json.dumps(line)}")
-        return self.text("told")
+        self.browser.until(f"document.getElementById('line-reply').dataset.line === {json.dumps(line)}")
+        return self.text("line-reply")
 
     def test_lines_that_are_typed(self) -> None:
         polygon = "count polygon 3 0 0 9000000 0 0 9000000 on 4"
         for line in ("count all", "nearest 3 0 0", "cost find all first 1000", polygon, "levels"):
-            reply, cost = told(self.table, [line, f"cost {line}"])
+            reply, cost = replies_of(self.table, [line, f"cost {line}"])
             nodes = f"; the query opens {cost[0].split()[2]} nodes" if cost[0].startswith("ok") else ""
             self.assertEqual(self.typed(line), f"ok, {reply[-1].split()[2]}{nodes}")
         for line in ("find window 1 first 1", "<b>x</b>", "find all on 64 first 1", "find circle 0 0 -1 first 1"):
-            self.assertEqual(told(self.table, [line]), [[f"error 1 {self.typed(line)}"]])
+            self.assertEqual(replies_of(self.table, [line]), [[f"error 1 {self.typed(line)}"]])
         for line in ("find all", "find all first 1001", "find all first 99999999999999999999", "nearest 1001 0 0",
                      "cost find all", " cost\tfind all near 0 0 first 1001", "cost nearest 1001 0 0"):
             self.assertIn("at most 1000", self.typed(line))

@@ -9,7 +9,7 @@ from pathlib import Path
 from urllib.parse import quote
 
 import random_runs
-from tiles_support import BOXES, Mapped, Server, told
+from tiles_support import BOXES, Mapped, Server, replies_of
 
 TEXT = "text/plain; charset=utf-8"
 
@@ -91,23 +91,23 @@ class Refusals(Mapped):
     def test_lines_at_random(self) -> None:
         """Each is answered as the program does, or isn't asked since it may have too many answers."""
         chance = random.Random(3)
-        asked = refused = 0
+        answered = refused = 0
         for _ in range(250):
             line = random_runs.some_line(chance).decode(errors="ignore")
             reply, body = self.server.get("/ask?q=" + quote(line))
             if reply.status != 200:
                 self.assertEqual(reply.status, 400)
                 continue
-            found, wanted = json.loads(body), told(self.table, [line])
+            found, expected = json.loads(body), replies_of(self.table, [line])
             if found.get("fault", "").startswith(("here ", "a line ")):
                 refused += 1
                 continue
             rows = [f"{answer['id']} {answer['score']}" for answer in found.get("answers", [])]
             last = f"ok 1 {found['total']}" if "total" in found else f"error 1 {found['fault']}"
-            self.assertEqual([[*rows, last]], wanted, line)
+            self.assertEqual([[*rows, last]], expected, line)
             self.assertLessEqual(len(rows), 1000)
-            asked += 1
-        self.assertGreater(min(asked, refused), 20)
+            answered += 1
+        self.assertGreater(min(answered, refused), 20)
 
 
 class Tables(unittest.TestCase):
@@ -142,25 +142,25 @@ class Tables(unittest.TestCase):
             Server(table)
 
     def test_names_that_are_none(self) -> None:
-        room = Path(self.enterContext(tempfile.TemporaryDirectory()))
-        (room / "boxes.csv").write_text("1,0,1,0,1,3\n2,0,1,0,1,4\n")
-        for text, told in (
+        folder = Path(self.enterContext(tempfile.TemporaryDirectory()))
+        (folder / "boxes.csv").write_text("1,0,1,0,1,3\n2,0,1,0,1,4\n")
+        for text, message in (
             ("3,x\nid,name\n", "names.csv, line 2: not a number and a name\n"),
             ("3,x\n4\n", "names.csv, line 2: not a number and a name\n"),
             ("3,x\n4,x\n", "rtfilter-tiles: two layers have the same name\n"),
             ("4,layer 3\n", "rtfilter-tiles: two layers have the same name\n"),
         ):
-            (room / "names.csv").write_text(text)
+            (folder / "names.csv").write_text(text)
             with self.assertRaises(RuntimeError) as raised:
-                Server(room / "boxes.csv", "--layers", str(room / "names.csv"))
-            self.assertTrue(str(raised.exception).endswith(told), raised.exception)
+                Server(folder / "boxes.csv", "--layers", str(folder / "names.csv"))
+            self.assertTrue(str(raised.exception).endswith(message), raised.exception)
 
     def test_names_as_a_spreadsheet_writes_them(self) -> None:
         """With a byte order mark, CR LF, and line ends within a name; a number that no box has says nothing."""
-        room = Path(self.enterContext(tempfile.TemporaryDirectory()))
-        (room / "boxes.csv").write_text("1,0,1,0,1\n2,0,1,0,1\n")
-        (room / "names.csv").write_bytes(b'\xef\xbb\xbf1,"a\r\nb"\r\n\r\n99999999999999999999,x\r\n')
-        with Server(room / "boxes.csv", "--names", str(room / "names.csv")) as server:
+        folder = Path(self.enterContext(tempfile.TemporaryDirectory()))
+        (folder / "boxes.csv").write_text("1,0,1,0,1\n2,0,1,0,1\n")
+        (folder / "names.csv").write_bytes(b'\xef\xbb\xbf1,"a\r\nb"\r\n\r\n99999999999999999999,x\r\n')
+        with Server(folder / "boxes.csv", "--names", str(folder / "names.csv")) as server:
             answers = json.loads(server.get("/ask?q=find+all+first+2")[1])["answers"]
             self.assertEqual([answer.get("name") for answer in answers], ["a\r\nb", None])
 

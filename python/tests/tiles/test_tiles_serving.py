@@ -32,7 +32,7 @@ MOST_SECONDS = 0.02  # of processor time for a tile of some 100 boxes, which tak
 
 
 class Serving(Mapped):
-    def asked(self, target: str, server: Server | None = None, method: str = "GET", **headers: str) -> tuple[HTTPResponse, bytes]:
+    def response(self, target: str, server: Server | None = None, method: str = "GET", **headers: str) -> tuple[HTTPResponse, bytes]:
         """The reply to a request with headers, in whose names `_` stands for `-`, and its body."""
         connection = (server or self.server).connected()
         try:
@@ -45,31 +45,31 @@ class Serving(Mapped):
 
 class Told(Serving):
     def test_tile_json(self) -> None:
-        told = self.json("/tiles.json")
-        self.assertEqual(told["tilejson"], "3.0.0")
-        self.assertEqual(told["tiles"], [f"{self.server.address}{{z}}/{{x}}/{{y}}.pbf"])
-        self.assertEqual([it["id"] for it in told["vector_layers"]], [*LAYERS, "density"])
-        self.assertEqual([it["fields"] for it in told["vector_layers"]], [{"name": "String"}] * 6 + [{"count": "Number"}])
-        self.assertEqual((told["minzoom"], told["maxzoom"]), (0, 22))
+        tiles = self.json("/tiles.json")
+        self.assertEqual(tiles["tilejson"], "3.0.0")
+        self.assertEqual(tiles["tiles"], [f"{self.server.address}{{z}}/{{x}}/{{y}}.pbf"])
+        self.assertEqual([it["id"] for it in tiles["vector_layers"]], [*LAYERS, "density"])
+        self.assertEqual([it["fields"] for it in tiles["vector_layers"]], [{"name": "String"}] * 6 + [{"count": "Number"}])
+        self.assertEqual((tiles["minzoom"], tiles["maxzoom"]), (0, 22))
         x1, x2, y1, y2 = self.json("/about")["bounds"]
-        west, south, east, north = told["bounds"]
+        west, south, east, north = tiles["bounds"]
         self.assertAlmostEqual(west, x1 / HALF * 180, delta=1e-6)
         self.assertAlmostEqual(east, x2 / HALF * 180, delta=1e-6)
         self.assertTrue(-90 < south < north < 90 and south < 0 < north)  # near the equator it is as in x, but for a part
         self.assertAlmostEqual(north, y2 / HALF * 180, delta=1e-3 * abs(north))
-        z = told["center"][2]
+        z = tiles["center"][2]
         self.assertTrue(max(x2 - x1, y2 - y1) <= 2 * 2 * HALF / 2**z < 2 * max(x2 - x1, y2 - y1) + 2)
 
     def test_addresses_as_others_have_them(self) -> None:
         with Server(self.table, "--host", "tiles.example.org", "--url", "https://example.org/t/") as server:
-            reply, body = self.asked("/tiles.json", server, Host="tiles.example.org")
+            reply, body = self.response("/tiles.json", server, Host="tiles.example.org")
             self.assertEqual(json.loads(body)["tiles"], ["https://example.org/t/{z}/{x}/{y}.pbf"])
-            _, body = self.asked("/style.json", server)
+            _, body = self.response("/style.json", server)
             self.assertEqual(json.loads(body)["sources"]["boxes"]["url"], "https://example.org/t/tiles.json")
-        reply, body = self.asked("/tiles.json", Host=f"LOCALHOST:{self.server.port}")
+        reply, body = self.response("/tiles.json", Host=f"LOCALHOST:{self.server.port}")
         self.assertEqual(json.loads(body)["tiles"], [f"http://localhost:{self.server.port}/{{z}}/{{x}}/{{y}}.pbf"])
 
-    def test_gdal_reads_tiles_by_what_is_told(self) -> None:
+    def test_gdal_reads_tiles_by_their_description(self) -> None:
         """All boxes of a window at a level, from the TileJSON alone."""
         wants("ogrinfo")
         address = self.server.address
@@ -87,14 +87,14 @@ class Told(Serving):
 
     def test_style(self) -> None:
         """Each layer that tiles may have is drawn, from the source that is told."""
-        told = self.json("/style.json")
-        self.assertEqual(told["version"], 8)
-        self.assertEqual(told["sources"], {"boxes": {"type": "vector", "url": f"{self.server.address}tiles.json"}})
-        ground, *layers = told["layers"]
+        style = self.json("/style.json")
+        self.assertEqual(style["version"], 8)
+        self.assertEqual(style["sources"], {"boxes": {"type": "vector", "url": f"{self.server.address}tiles.json"}})
+        ground, *layers = style["layers"]
         self.assertEqual(ground["type"], "background")
         self.assertEqual({it["source-layer"] for it in layers}, {*LAYERS, "density"})
         self.assertEqual({it["source"] for it in layers}, {"boxes"})
-        self.assertEqual(len({it["id"] for it in told["layers"]}), len(told["layers"]))
+        self.assertEqual(len({it["id"] for it in style["layers"]}), len(style["layers"]))
         shades = [it["paint"]["fill-opacity"] for it in layers if it["source-layer"] == "density"]
         self.assertEqual(shades, sorted({*shades}))
         colours = re.search(r"COLOURS = (\[.*?\])", (ROOT / "python/rtfilter/tiles/page.js").read_text())
@@ -104,8 +104,8 @@ class Told(Serving):
 
     def test_style_by_the_rules(self) -> None:
         """Those of the style specification and of TileJSON, which refuse what is broken."""
-        style, told = self.json("/style.json"), self.json("/tiles.json")
-        self.assertEqual(faults_of(style, told), [])
+        style, tiles = self.json("/style.json"), self.json("/tiles.json")
+        self.assertEqual(faults_of(style, tiles), [])
         breaks: list[tuple[str, Callable[[dict[str, Any], dict[str, Any]], Any]]] = [
             ("the style's members", lambda style, _: style.update(version=7)),
             ("source boxes", lambda style, _: style["sources"]["boxes"].update(type="geojson")),
@@ -116,11 +116,11 @@ class Told(Serving):
             ("layer fill of density from 1: fill-opacity", lambda style, _: style["layers"][1]["paint"].update({"fill-opacity": 2})),
             ("layer fill of density from 4: filter", lambda style, _: style["layers"][2]["filter"].append(["<", "count", 1])),
             ("layer land: a background draws nothing else", lambda style, _: style["layers"][0].update(source="boxes")),
-            ("vector_layers", lambda _, told: told["vector_layers"][0].pop("fields")),
-            ("levels, bounds or center", lambda _, told: told["center"].__setitem__(2, 23)),
+            ("vector_layers", lambda _, tiles: tiles["vector_layers"][0].pop("fields")),
+            ("levels, bounds or center", lambda _, tiles: tiles["center"].__setitem__(2, 23)),
         ]
         for fault, breaking in breaks:
-            broken = json.loads(json.dumps([style, told]))
+            broken = json.loads(json.dumps([style, tiles]))
             breaking(*broken)
             self.assertEqual(faults_of(*broken), [fault])
 
@@ -134,44 +134,44 @@ class Caches(Serving):
         connection = self.server.connected()
         self.addCleanup(connection.close)
         for target in (TILE, EMPTY, "/", "/tiles.json", "/about", "/ask?q=count+all", "/nothing", "/view"):
-            told = []
+            heads = []
             for method in ("GET", "HEAD"):
                 connection.request(method, target, headers={"Accept-Encoding": "gzip"})
                 reply = connection.getresponse()
                 body = reply.read()
-                told.append((reply.status, [it for it in reply.getheaders() if it[0] != "Date"]))
-            self.assertEqual(told[0], told[1], target)
+                heads.append((reply.status, [it for it in reply.getheaders() if it[0] != "Date"]))
+            self.assertEqual(heads[0], heads[1], target)
             self.assertEqual(body, b"")
 
     def test_tags(self) -> None:
         """What whoever asks has already isn't sent again, until the table is another one."""
         for target in (TILE, EMPTY, "/", "/page.js", "/tiles.json", "/style.json", "/about"):
             for encoding in ("gzip", "identity"):
-                reply, body = self.asked(target, Accept_Encoding=encoding)
+                reply, body = self.response(target, Accept_Encoding=encoding)
                 tag = reply.headers["ETag"].removeprefix("W/")
                 for known in (tag, f"W/{tag}", f'"x", {tag}', "*", f'{tag} ,"x"'):
-                    again, nothing = self.asked(target, Accept_Encoding=encoding, If_None_Match=known)
+                    again, nothing = self.response(target, Accept_Encoding=encoding, If_None_Match=known)
                     self.assertEqual((again.status, nothing, again.headers["ETag"]), (304, b"", f"W/{tag}"), known)
                     self.assertEqual(again.headers["Cache-Control"], reply.headers["Cache-Control"])
                 for other in ('"x"', tag.replace('"', ""), tag[:-1], ""):
-                    again, body_again = self.asked(target, Accept_Encoding=encoding, If_None_Match=other)
+                    again, body_again = self.response(target, Accept_Encoding=encoding, If_None_Match=other)
                     self.assertEqual((again.status, body_again), (reply.status, body), other)
         for target in ("/view?x1=0&x2=9&y1=0&y2=9", "/ask?q=count+all", "/health", "/nothing"):
-            reply, _ = self.asked(target, If_None_Match="*")
+            reply, _ = self.response(target, If_None_Match="*")
             self.assertIsNone(reply.headers["ETag"])
             self.assertEqual(reply.headers["Cache-Control"], "no-cache")
-        self.assertEqual(self.asked("/5/99/0.pbf", If_None_Match="*")[0].status, 404)
+        self.assertEqual(self.response("/5/99/0.pbf", If_None_Match="*")[0].status, 404)
 
     def test_head_of_what_is_known(self) -> None:
         """304 to lists of tags and to `*`, on one line or on two; the headers of GET, no body, and the connection goes on."""
         connection = self.server.connected()
         self.addCleanup(connection.close)
-        tag = self.asked(TILE)[0].headers["ETag"].removeprefix("W/")
+        tag = self.response(TILE)[0].headers["ETag"].removeprefix("W/")
         for known, status in (
             (["*"], 304), ([f'"x", {tag}, "y"'], 304), ([f"W/{tag}"], 304), (['"x"', '"y"'], 200),
             ([tag[:-1]], 200), ([], 200),
         ):  # fmt: skip
-            told = []
+            heads = []
             for method in ("GET", "HEAD"):
                 connection.putrequest(method, TILE)
                 for it in known:
@@ -179,8 +179,8 @@ class Caches(Serving):
                 connection.endheaders()
                 reply = connection.getresponse()
                 body = reply.read()
-                told.append((reply.status, [it for it in reply.getheaders() if it[0] != "Date"]))
-            self.assertEqual((told[0], told[1][0], body), (told[1], status, b""), known)
+                heads.append((reply.status, [it for it in reply.getheaders() if it[0] != "Date"]))
+            self.assertEqual((heads[0], heads[1][0], body), (heads[1], status, b""), known)
 
     def test_another_table_has_another_tag(self) -> None:
         folder = Path(self.enterContext(tempfile.TemporaryDirectory()))
@@ -192,30 +192,30 @@ class Caches(Serving):
         tags = []
         for words in ([one], [same], [other], [one, "--names", str(names)], [one, "--url", "https://example.org/"]):
             with Server(*words) as server:
-                tags.append(self.asked("/0/0/0.pbf", server)[0].headers["ETag"])
+                tags.append(self.response("/0/0/0.pbf", server)[0].headers["ETag"])
         self.assertEqual(tags[0], tags[1])
         self.assertEqual(len(set(tags)), 4)
 
     def test_ages(self) -> None:
-        self.assertEqual(self.asked(TILE)[0].headers["Cache-Control"], "public, max-age=60")
-        self.assertEqual(self.asked(EMPTY)[0].headers["Cache-Control"], "public, max-age=60")
-        self.assertEqual(self.asked("/tiles.json")[0].headers["Cache-Control"], "no-cache")
-        for age, told in (("0", "no-cache"), ("86400", "public, max-age=86400")):
+        self.assertEqual(self.response(TILE)[0].headers["Cache-Control"], "public, max-age=60")
+        self.assertEqual(self.response(EMPTY)[0].headers["Cache-Control"], "public, max-age=60")
+        self.assertEqual(self.response("/tiles.json")[0].headers["Cache-Control"], "no-cache")
+        for age, control in (("0", "no-cache"), ("86400", "public, max-age=86400")):
             with Server(self.table, "--max-age", age) as server:
-                self.assertEqual(self.asked(TILE, server)[0].headers["Cache-Control"], told)
+                self.assertEqual(self.response(TILE, server)[0].headers["Cache-Control"], control)
 
     def test_gzip(self) -> None:
         """The same bytes, for whoever asks for it, where they are some."""
         for target in (TILE, "/", "/page.js", "/tiles.json", "/view?x1=-9000000&x2=9000000&y1=-9000000&y2=9000000"):
-            plain, body = self.asked(target)
-            short, packed = self.asked(target, Accept_Encoding="br, gzip;q=0.5")
+            plain, body = self.response(target)
+            short, packed = self.response(target, Accept_Encoding="br, gzip;q=0.5")
             self.assertEqual((plain.headers["Content-Encoding"], short.headers["Content-Encoding"]), (None, "gzip"))
             self.assertEqual((gzip.decompress(packed), packed[4:8]), (body, bytes(4)))  # which would be the time
             self.assertLess(len(packed), len(body))
             self.assertEqual({plain.headers["Vary"], short.headers["Vary"]}, {"Accept-Encoding"})
             self.assertEqual(plain.headers["ETag"], short.headers["ETag"])
         for target in (EMPTY, "/health", "/nothing"):
-            self.assertIsNone(self.asked(target, Accept_Encoding="gzip")[0].headers["Content-Encoding"], target)
+            self.assertIsNone(self.response(target, Accept_Encoding="gzip")[0].headers["Content-Encoding"], target)
 
     def test_encodings(self) -> None:
         """gzip by its name, on any line, where its weight isn't 0."""
@@ -247,18 +247,18 @@ class Origins(Serving):
             with Server(self.table, "--port", "0", *options) as server:
                 own[0] = f"http://127.0.0.1:{server.port}"
                 for origin in (*own, *allowed):
-                    reply, _ = self.asked(TILE, server, Origin=origin)
-                    told = origin if origin in allowed else None
-                    self.assertEqual((reply.status, reply.headers["Access-Control-Allow-Origin"]), (200, told), origin)
+                    reply, _ = self.response(TILE, server, Origin=origin)
+                    answered = origin if origin in allowed else None
+                    self.assertEqual((reply.status, reply.headers["Access-Control-Allow-Origin"]), (200, answered), origin)
                 for origin in refused:
-                    reply, _ = self.asked(TILE, server, Origin=origin)
+                    reply, _ = self.response(TILE, server, Origin=origin)
                     self.assertEqual((reply.status, reply.headers["Access-Control-Allow-Origin"]), (403, None), origin)
-                self.assertEqual(self.asked(TILE, server)[0].status, 200)
+                self.assertEqual(self.response(TILE, server)[0].status, 200)
                 self.assertEqual(server.reply_to(b"<x> y z\r\n\r\n")[0].status, 400)
-                self.assertEqual("Origin" in self.asked(TILE, server)[0].headers["Vary"], bool(options))
+                self.assertEqual("Origin" in self.response(TILE, server)[0].headers["Vary"], bool(options))
         with Server(self.table, "--origin", "*") as server:
             for origin in (there, "null"):
-                self.assertEqual(self.asked(TILE, server, Origin=origin)[0].headers["Access-Control-Allow-Origin"], "*")
+                self.assertEqual(self.response(TILE, server, Origin=origin)[0].headers["Access-Control-Allow-Origin"], "*")
 
     def test_a_page_of_another_origin(self) -> None:
         """In a browser it reads tiles where it may, and else nothing."""
@@ -267,16 +267,16 @@ class Origins(Serving):
         self.addCleanup(browser.close)
         with blank_pages() as port:
             origin = f"http://127.0.0.1:{port}"
-            for options, told in ((["--origin", origin], 200), ([], "TypeError: Failed to fetch")):
+            for options, expected in ((["--origin", origin], 200), ([], "TypeError: Failed to fetch")):
                 with Server(self.table, *options) as server:
                     browser.open(f"{origin}/")
                     browser.until(f"location.origin === '{origin}' && document.readyState === 'complete'")
-                    asked = f"fetch('{server.address.rstrip('/')}{TILE}').then(it => it.status, String)"
-                    self.assertEqual(browser.value(asked), told)
+                    script = f"fetch('{server.address.rstrip('/')}{TILE}').then(it => it.status, String)"
+                    self.assertEqual(browser.value(script), expected)
 
 
 class Ids(Serving):
-    def test_what_a_feature_is_told_by(self) -> None:
+    def test_what_identifies_a_feature(self) -> None:
         """Its own id is its box's; below 0 there is none, and the property `id` has it."""
         folder = Path(self.enterContext(tempfile.TemporaryDirectory()))
         table, names = folder / "boxes.csv", folder / "names.csv"
@@ -284,13 +284,13 @@ class Ids(Serving):
         table.write_text("".join(f"{id},0,0,0,0\n" for id in ids))
         names.write_text(f"0,zero\n-1,one less\n127,{'long' * 1000}\n")
         with Server(table, "--names", str(names)) as server:
-            _, body = self.asked("/0/0/0.pbf", server)
+            _, body = self.response("/0/0/0.pbf", server)
             found = features_of(body)
             self.assertEqual([it[0] if it[0] is not None else it[1]["id"] for it in found], ids)
             self.assertEqual([it[1] for it in found], [
                 {"id": -(2**63)}, {"id": -1, "name": "one less"}, {"name": "zero"}, {"name": "long" * 1000}, *({} for _ in ids[4:])
             ])  # fmt: skip
-            fields = json.loads(self.asked("/tiles.json", server)[1])["vector_layers"][0]["fields"]
+            fields = json.loads(self.response("/tiles.json", server)[1])["vector_layers"][0]["fields"]
             self.assertEqual(fields, {"name": "String", "id": "Number"})
 
 

@@ -27,7 +27,7 @@ def make_map(folder: Path, boxes: int, seed: int = 1) -> None:
     subprocess.run([*map(str, words)], check=True, timeout=LONGEST, env=environment())
 
 
-def told(table: Path, lines: Iterable[str]) -> list[list[str]]:
+def replies_of(table: Path, lines: Iterable[str]) -> list[list[str]]:
     """What the program writes for each line, the last line of each reply included, where each line has a reply."""
     queries = "".join(line + "\n" for line in lines)
     done = subprocess.run([PROGRAM, table], input=queries, capture_output=True, text=True, timeout=LONGEST)
@@ -39,13 +39,13 @@ def told(table: Path, lines: Iterable[str]) -> list[list[str]]:
     return replies[:-1]
 
 
-def number_told(table: Path, line: str) -> int:
+def number_of(table: Path, line: str) -> int:
     """The number in the last line of the reply to a line."""
-    return int(told(table, [line])[0][-1].split()[2])
+    return int(replies_of(table, [line])[0][-1].split()[2])
 
 
-def ids_told(table: Path, line: str) -> list[int]:
-    return [int(answer.split()[0]) for answer in told(table, [line])[0][:-1]]
+def ids_of(table: Path, line: str) -> list[int]:
+    return [int(answer.split()[0]) for answer in replies_of(table, [line])[0][:-1]]
 
 
 class Server:
