@@ -130,9 +130,20 @@ def unanswered(pages):
 
 def blocks(text):
     """The fenced blocks of a page but for outputs after "prints": of each its language and its first line."""
-    for before, language, first in re.findall(r"(?:^(.*)\n\n|^)^```(.*)\n(.*)\n(?:(?!```).*\n)*```$", text, re.MULTILINE):
-        if before != "prints" or language:
-            yield language, first
+    block, before = None, ""
+    for line in text.splitlines():
+        is_fence = line.lstrip().startswith("```")
+        if is_fence and block is None:
+            block = [line.strip().removeprefix("```")]
+        elif is_fence:
+            language, *shown = block
+            if language or before != "prints":
+                yield language, "".join(shown[:1])
+            block, before = None, ""
+        elif block is not None:
+            block.append(line)
+        elif line:
+            before = line
 
 
 def unnamed_blocks(pages):
