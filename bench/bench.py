@@ -77,7 +77,7 @@ class Bench:
 
     def write_tables(self):
         """Writes the tables that take long side by side."""
-        tables = [("even", IDS_BOXES, order) for order in IDS] + [(name, BOXES, "shuffled") for name in TABLES]
+        tables = [("uniform", IDS_BOXES, order) for order in IDS] + [(name, BOXES, "shuffled") for name in TABLES]
         with ProcessPoolExecutor() as pool:
             list(pool.map(self.table, *zip(*tables)))
 
@@ -115,11 +115,11 @@ class Bench:
 
     def growth(self):
         makes = {kind: kinds.MAIN[kind] for kind in GROWN}
-        return {boxes: self.measured("even", boxes, makes, self.programs) for boxes in SIZES}
+        return {boxes: self.measured("uniform", boxes, makes, self.programs) for boxes in SIZES}
 
     def lines(self):
         every = dict(kinds.every_kind()) | {("main", kind, "find"): make for kind, make in kinds.MAIN.items()}
-        found = self.measured("even", BOXES, every, self.without_scan())
+        found = self.measured("uniform", BOXES, every, self.without_scan())
         rows = [{"group": group, "row": row, "column": column, "seconds": seconds}
                 for (group, row, column), seconds in found.pop("lines").items()]
         return {"boxes": BOXES, "rows": rows} | found
@@ -133,7 +133,7 @@ class Bench:
         programs = {name: self.programs[name] for name in PACKED if name in self.programs}
         rows = {}
         for order in IDS:
-            load, sessions = timing.loads(programs, self.table("even", IDS_BOXES, order))
+            load, sessions = timing.loads(programs, self.table("uniform", IDS_BOXES, order))
             loaded = {name: session.memory() for name, session in sessions.items()}
             rows[order] = {"load": load, "loaded": loaded, "find all": timing.costs(sessions, ["find all"])}
             timing.ended(sessions)
@@ -149,7 +149,7 @@ class Bench:
         return elsewhere(self.programs, self.folder)
 
     def library(self):
-        found, differences, passed_over = library(self.archive, self.table("even", BOXES), BOXES, self.folder)
+        found, differences, passed_over = library(self.archive, self.table("uniform", BOXES), BOXES, self.folder)
         self.passed_over |= passed_over
         self.differences += differences
         for difference in differences:

@@ -28,8 +28,8 @@ def instructions(programs, folder):
     """The instructions of each program for a record and for a line of each kind, side by side on all cores."""
     if not shutil.which("valgrind"):
         return None
-    table = write_table(Path(folder, "counted.csv"), "even", BOXES, "shuffled")
-    asker, files = Asker("even", BOXES), {"a record": (Path(folder, "nothing"), BOXES)}
+    table = write_table(Path(folder, "counted.csv"), "uniform", BOXES, "shuffled")
+    asker, files = Asker("uniform", BOXES), {"a record": (Path(folder, "nothing"), BOXES)}
     files["a record"][0].write_text("")
     for at, (name, make) in enumerate(MAIN.items()):
         lines = lines_of(make, asker)[: COUNTED.get(name, EACH)]

@@ -46,7 +46,7 @@ def in_memory(table):
 
 def few_queries(programs, table, database, folder):
     """The seconds of whole runs by how many windows are asked: the load, where there is one, and the lines."""
-    lines = lines_of(MAIN[WINDOW], Asker("even", BOXES))
+    lines = lines_of(MAIN[WINDOW], Asker("uniform", BOXES))
     words = {name: [programs[name], table] for name in (OURS, SCAN) if name in programs}
     if shutil.which("sqlite3"):
         words[IN_FILE] = [shutil.which("sqlite3"), str(database)]
@@ -81,7 +81,7 @@ def elsewhere(programs, folder):
     """Few queries over the largest table, and the change of one box in tables of each size."""
     changes, database = {}, Path(folder, "box.sqlite")
     for boxes in SIZES:
-        table = write_table(Path(folder, "elsewhere.csv"), "even", boxes, "shuffled")
+        table = write_table(Path(folder, "elsewhere.csv"), "uniform", boxes, "shuffled")
         base = in_memory(table)
         if boxes == BOXES:
             file = sqlite3.connect(database)

@@ -67,7 +67,7 @@ def library(archive, table, boxes, folder):
     program, passed_over = built(Path(archive))
     if not program:
         return None, [], passed_over
-    asker, files = kinds.Asker("even", boxes), []
+    asker, files = kinds.Asker("uniform", boxes), []
     for at, (name, make) in enumerate(KINDS.items()):
         files.append(Path(folder, f"library.{at}"))
         count = SLOW_QUERIES if name == kinds.QUARTER else QUERIES

@@ -17,7 +17,7 @@ def low_and_high(value, length):
     return low, max(low, min(SIDE, int(value + length)))
 
 
-class Even:
+class Uniform:
     """Boxes anywhere, with sides of up to a quarter of the space between two."""
 
     def __init__(self, boxes):
@@ -32,7 +32,7 @@ class Even:
         return *low_and_high(x, space / 4 * chance.random()), *low_and_high(y, space / 4 * chance.random())
 
 
-class Clustered(Even):
+class Clustered(Uniform):
     """Nine boxes of ten in cities, few of them large, and closer towards their middles; queries too."""
 
     def __init__(self, boxes):
@@ -56,7 +56,7 @@ class Clustered(Even):
         return x + far * math.cos(angle), y + far * math.sin(angle), space
 
 
-class Sizes(Even):
+class Sizes(Uniform):
     """Boxes anywhere, their sides from 1 to a tenth of the plane, as many between 1 and 10 as between 10 and 100."""
 
     GREATEST = SIDE // 5
@@ -66,7 +66,7 @@ class Sizes(Even):
         return *low_and_high(x, self.GREATEST ** chance.random()), *low_and_high(y, self.GREATEST ** chance.random())
 
 
-class Overlapping(Even):
+class Overlapping(Uniform):
     """Boxes anywhere, so large that twenty lie over each point, as around long diagonal lines; and small windows."""
 
     def place(self, chance):
@@ -79,7 +79,7 @@ class Overlapping(Even):
         return *low_and_high(x - length / 2, length), *low_and_high(y - length / 2, length)
 
 
-class Diagonal(Even):
+class Diagonal(Uniform):
     """Small boxes on the diagonal of the plane."""
 
     def __init__(self, boxes):
@@ -90,7 +90,7 @@ class Diagonal(Even):
         return x, x, self.space
 
 
-class Ring(Even):
+class Ring(Uniform):
     """Points on a circle."""
 
     def __init__(self, boxes):
@@ -105,7 +105,7 @@ class Ring(Even):
         return *low_and_high(x, 0), *low_and_high(y, 0)
 
 
-class Slabs(Even):
+class Slabs(Uniform):
     """Boxes as high as the plane and 1 wide."""
 
     def __init__(self, boxes):
@@ -115,7 +115,7 @@ class Slabs(Even):
         return *low_and_high(self.place(chance)[0], 1), -SIDE, SIDE
 
 
-class Crossing(Even):
+class Crossing(Uniform):
     """Boxes as long as the plane and 1 wide that cross around its middle."""
 
     def __init__(self, boxes):
@@ -130,7 +130,7 @@ class Crossing(Even):
 
 
 TABLES = {
-    "even": Even,
+    "uniform": Uniform,
     "clustered": Clustered,
     "very different sizes": Sizes,
     "overlapping": Overlapping,
