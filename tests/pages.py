@@ -10,7 +10,8 @@ and `reply` is a run with that line alone over boxes.csv, or over the table that
 options in front of it. The logic that pages say all is proved with is that of `rt version`, where `rt` is there. Each link of a
 page leads to a file of the repository, and to a heading of it; each page of docs/ is reached from README.md by links; each
 question of questions.md has an answer under a heading that is there; each fenced block has a row of blocks.md, which names the
-test that runs it or says why none does. The last line is `N passed, M failed`.
+test that runs it or says why none does. What docs/limits.md says is the least or the greatest is accepted, and one less or more
+refused. The last line is `N passed, M failed`.
 """
 
 import fnmatch
@@ -79,6 +80,54 @@ def printed(command, folder, path):
     environment = {**os.environ, "PATH": f"{path}:{os.environ['PATH']}"}
     done = subprocess.run(["bash", "-c", command], cwd=folder, env=environment, timeout=60, **how)
     return done.stdout.decode(errors="replace")
+
+
+def limit(text, name):
+    """The least and the greatest number in the row of docs/limits.md that begins with a name."""
+    numbers = re.findall(r"-?\d[\d,]*", re.search(rf"^\| {re.escape(name)}.*? \| (.*?) \|", text, re.MULTILINE)[1])
+    return [int(number.replace(",", "")) for number in numbers[:2]]
+
+
+def record(**given):
+    """A command that loads a table of one box."""
+    box = {"id": 1, "x": 0, "y": 0, "layer": 0} | given
+    return "echo '{id},{x},{x},{y},{y},{layer}' | rtfilter /dev/stdin /dev/null".format(**box)
+
+
+def asked(line):
+    return f"echo '{line}' | rtfilter boxes.csv | grep ^error"
+
+
+def polygon(vertices):
+    """A line with a polygon of so many vertices, which lie on a parabola."""
+    return asked(f"count polygon {vertices} {' '.join(f'{at} {at * at}' for at in range(vertices))}")
+
+
+AT_LIMITS = [  # a limit by its name, and a command for a number, which prints something exactly if the number is refused
+    ("id", lambda number: record(id=number)),
+    ("coordinate", lambda number: record(x=number)),
+    ("coordinate", lambda number: record(y=number)),
+    ("layer", lambda number: record(layer=number)),
+    ("polygon", polygon),
+    ("radius of a circle", lambda number: asked(f"count circle 0 0 {number}")),
+    ("`first K`, `nearest K`", lambda number: asked(f"find all first {number}")),
+    ("`first K`, `nearest K`", lambda number: asked(f"nearest {number} 0 0")),
+    ("fanout", lambda number: f"rtfilter --fanout {number} boxes.csv /dev/null"),
+]
+GREATEST = [  # of those that are named by their greatest number alone
+    ("boxes in a table", lambda number: f"rtfilter --max-entries {number} boxes.csv /dev/null"),
+    ("query line", lambda number: f"printf '%-{number}s\\n' 'count all' | rtfilter boxes.csv | grep ^error"),
+]
+
+
+def limits(text):
+    """A command for each limit and for what lies just beyond it, with whether the number is to be accepted."""
+    for name, command in AT_LIMITS:
+        least, greatest = limit(text, name)
+        yield from ((command(number), least <= number <= greatest) for number in (least - 1, least, greatest, greatest + 1))
+    for name, command in GREATEST:
+        greatest = limit(text, name)[0]
+        yield from ((command(number), number <= greatest) for number in (greatest, greatest + 1))
 
 
 def all_pages():
@@ -195,7 +244,9 @@ def main():
             ("blocks", unnamed_blocks),
         )  # fmt: skip
         by_looking = ((ROOT / "README.md", words, [], [*check(pages)]) for words, check in checks)
-        for page, command, shown, found in [*outcomes, *names_of_the_logic(), *by_looking]:
+        at = ROOT / "docs/limits.md"
+        at_limits = ((at, command, fits, not printed(command, folder, path)) for command, fits in limits(pages[at]))
+        for page, command, shown, found in [*outcomes, *names_of_the_logic(), *by_looking, *at_limits]:
             if found == shown:
                 passed += 1
             else:
