@@ -10,8 +10,7 @@ and `reply` is a run with that line alone over boxes.csv, or over the table that
 options in front of it. The logic that pages say all is proved with is that of `rt version`, where `rt` is there. Each link of a
 page leads to a file of the repository, and to a heading of it; each page of docs/ is reached from README.md by links; each
 question of questions.md has an answer under a heading that is there; each fenced block has a row of blocks.md, which names the
-test that runs it or says why none does. What docs/limits.md says is the least or the greatest is accepted, and one less or more
-refused. The last line is `N passed, M failed`.
+test that runs it or says why none does. Each limit of docs/limits.md is accepted, and the next number beyond it refused. The last line is `N passed, M failed`.
 """
 
 import fnmatch
@@ -83,7 +82,7 @@ def printed(command, folder, path):
 
 
 def limit(text, name):
-    """The least and the greatest number in the row of docs/limits.md that begins with a name."""
+    """The first two numbers in the row of docs/limits.md that begins with a name, or the only one."""
     numbers = re.findall(r"-?\d[\d,]*", re.search(rf"^\| {re.escape(name)}.*? \| (.*?) \|", text, re.MULTILINE)[1])
     return [int(number.replace(",", "")) for number in numbers[:2]]
 
@@ -94,13 +93,14 @@ def record(**given):
     return "echo '{id},{x},{x},{y},{y},{layer}' | rtfilter /dev/stdin /dev/null".format(**box)
 
 
-def asked(line):
+def error_of(line):
+    """A command that prints the fault of a query line, if it has one."""
     return f"echo '{line}' | rtfilter boxes.csv | grep ^error"
 
 
 def polygon(vertices):
     """A line with a polygon of so many vertices, which lie on a parabola."""
-    return asked(f"count polygon {vertices} {' '.join(f'{at} {at * at}' for at in range(vertices))}")
+    return error_of(f"count polygon {vertices} {' '.join(f'{at} {at * at}' for at in range(vertices))}")
 
 
 AT_LIMITS = [  # a limit by its name, and a command for a number, which prints something exactly if the number is refused
@@ -109,9 +109,9 @@ AT_LIMITS = [  # a limit by its name, and a command for a number, which prints s
     ("coordinate", lambda number: record(y=number)),
     ("layer", lambda number: record(layer=number)),
     ("polygon", polygon),
-    ("radius of a circle", lambda number: asked(f"count circle 0 0 {number}")),
-    ("`first K`, `nearest K`", lambda number: asked(f"find all first {number}")),
-    ("`first K`, `nearest K`", lambda number: asked(f"nearest {number} 0 0")),
+    ("radius of a circle", lambda number: error_of(f"count circle 0 0 {number}")),
+    ("`first K`, `nearest K`", lambda number: error_of(f"find all first {number}")),
+    ("`first K`, `nearest K`", lambda number: error_of(f"nearest {number} 0 0")),
     ("fanout", lambda number: f"rtfilter --fanout {number} boxes.csv /dev/null"),
 ]
 GREATEST = [  # of those that are named by their greatest number alone
