@@ -101,10 +101,10 @@ def main() -> None:
     parser.add_argument("positions", metavar="POSITIONS", help="CSV file with a header")
     parser.add_argument("--nearest", type=int, default=1, metavar="K", help="lines for each position, all if there are fewer (default 1)")
     parser.add_argument("--columns", default="longitude,latitude", metavar="X,Y", help="columns of longitude and latitude, in degrees (default longitude,latitude)")
-    parser.add_argument("--crs", default="EPSG:3857", help="plane in which lines are nearest, in metres, by a name that pyproj takes (default EPSG:3857)")
+    parser.add_argument("--crs", default="EPSG:3857", metavar="CRS", help="plane in which lines are nearest, in metres, by a name that pyproj takes (default EPSG:3857)")
     args = parser.parse_args()
     if args.nearest < 1:
-        parser.error("K is 1 or more")
+        parser.error("argument --nearest: 1 or more")
     with open(args.positions, encoding="utf-8", newline="") as file:
         records = csv.reader(file)
         header = next(records)

@@ -10,11 +10,13 @@ import contextlib
 import os
 import resource
 import selectors
+import shutil
 import signal
 import stat
 import sys
 from collections.abc import Callable, Sequence
 from functools import partial
+from pathlib import Path
 from typing import Any
 
 import prefork
@@ -39,9 +41,7 @@ def main(words: Sequence[str]) -> int:
             if not listeners:
                 parser.error("nowhere to listen: --unix, --tcp, or a socket of systemd")
             health_listener = stack.enter_context(tcp_listener(*args.health)) if args.health else None
-            library = prefork.library_of(args.program)
-            if library is None:
-                raise FileNotFoundError(f"no program {args.program}, or no {prefork.LIBRARY} with it")
+            library = library_of(args.program)
             for listener in listeners:
                 log(f"listening on {name_of(listener.getsockname())}")
             if health_listener:
@@ -53,6 +53,16 @@ def main(words: Sequence[str]) -> int:
     except OSError as error:
         log(f"rtfilter-serve: {error}")
     return NO_SERVICE
+
+
+def library_of(program: str) -> Path:
+    """The library of a program. Raises `FileNotFoundError`."""
+    if shutil.which(program) is None:
+        raise FileNotFoundError(f"no program {program}: name it with --program")
+    library = prefork.library_of(program)
+    if library is None:
+        raise FileNotFoundError(f"no {prefork.LIBRARY} beside {program}, nor in ../lib/rtfilter from its folder")
+    return library
 
 
 def prepare() -> None:
@@ -79,7 +89,7 @@ def parser_of_words() -> argparse.ArgumentParser:
     add, seconds, octal = parser.add_argument, within(float, 0, LONGEST), partial(int, base=8)
     add("table", metavar="TABLE", help="CSV file of the boxes")
     add("--unix", metavar="PATH", action="append", default=[], help="Unix socket to listen on, replaced if nobody listens on it; may be repeated")
-    add("--mode", type=within(octal, 0, 0o777, "{:o}"), default=0o600, help="mode of Unix sockets, in octal: users with write permission may connect (default 600)")
+    add("--mode", metavar="MODE", type=within(octal, 0, 0o777, "{:o}"), default=0o600, help="mode of Unix sockets, in octal: users with write permission may connect (default 600)")
     add("--tcp", metavar="[HOST:]PORT", type=host_and_port, action="append", default=[],
         help="TCP port to listen on, 0 for any free one, [::1]:7878 for IPv6; may be repeated (default host 127.0.0.1)")  # fmt: skip
     add("--health", metavar="[HOST:]PORT", type=host_and_port, help="HTTP port of /health and /metrics")
@@ -89,7 +99,7 @@ def parser_of_words() -> argparse.ArgumentParser:
     add("--drain", metavar="SECONDS", type=seconds, default=300.0,
         help="time that connections may keep the old table, and write replies after SIGTERM (default 300)")  # fmt: skip
     add("--load-timeout", metavar="SECONDS", type=seconds, default=300.0, help="time that a load may take (default 300)")
-    add("--program", default="rtfilter", help="the program, with rtfilter-prefork.so beside it or in ../lib/rtfilter (default rtfilter, on the path)")
+    add("--program", metavar="PROGRAM", default="rtfilter", help="the program, with rtfilter-prefork.so beside it or in ../lib/rtfilter (default rtfilter, on the path)")
     add("--version", action="version", version=f"%(prog)s {VERSION}", help="print the version")
     own: dict[str, Any] = {"dest": "options", "default": []}
     add("-H", "--header", action="append_const", const="--header", help="skip the table's first record", **own)

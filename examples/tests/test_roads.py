@@ -96,7 +96,7 @@ def test_refusals(tmp_path: Path) -> None:
         ("longitude,latitude\n0,91\n", [], "outside of the plane"),
         ("longitude,latitude\nx,1\n", [], "could not convert string to float: 'x'"),
         ("x,y\n1,1\n", [], "'longitude' is not in list"),
-        ("longitude,latitude\n1,1\n", ["--nearest", "-1"], "K is 1 or more"),
+        ("longitude,latitude\n1,1\n", ["--nearest", "-1"], "argument --nearest: 1 or more"),
     ):
         done = run(tmp_path, [line(1, [(0, 0), (1, 1)])], positions, *options)
         assert done.returncode != 0 and why in done.stderr

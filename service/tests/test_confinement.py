@@ -9,7 +9,7 @@ import subprocess
 import unittest
 from pathlib import Path
 
-from served import BOXES, FLAGS, SOURCE, TRIES, Case, found, read_lines, table_of, output_of_program, until
+from served import BOXES, FLAGS, SOURCE, TRIES, Case, found, output_of_program, read_lines, table_of, until
 
 CALLS = {"read", "write", "munmap", "brk", "exit_group"}
 ERROR_OF_VALGRIND = 99

@@ -213,7 +213,10 @@ class Sockets(Case):
         library.rename(lib / library.name)
         self.assert_well(self.served(program=str(program)))
         (lib / library.name).unlink()
-        message = f"rtfilter-serve: no program {program}, or no rtfilter-prefork.so with it\n"
+        message = f"rtfilter-serve: no rtfilter-prefork.so beside {program}, nor in ../lib/rtfilter from its folder\n"
+        self.assertEqual(run("--unix", f"{self.folder}/other", "--program", program, BOXES), (1, message))
+        program.unlink()
+        message = f"rtfilter-serve: no program {program}: name it with --program\n"
         self.assertEqual(run("--unix", f"{self.folder}/other", "--program", program, BOXES), (1, message))
 
     def test_nowhere_to_listen(self) -> None:
@@ -223,12 +226,17 @@ class Sockets(Case):
 
     def test_bad_options(self) -> None:
         path = Path(self.folder, "socket")
-        for words in (
-            ["--mode", "1000"], ["--mode", "x"], ["--connections", "0"], ["--connections", "1048577"], ["--silence", "-1"],
-            ["--patience", "inf"], ["--drain", "nan"], ["--load-timeout", "x"], ["--tcp", "x:y"], ["--health", "70000"],
+        for option, word, ends in (
+            ("--mode", "1000", "0 to 777"), ("--mode", "x", "0 to 777"), ("--connections", "0", "1 to 1048576"),
+            ("--connections", "1048577", "1 to 1048576"), ("--silence", "-1", "0 to 100000000"), ("--patience", "inf", "0 to 100000000"),
+            ("--drain", "nan", "0 to 100000000"), ("--load-timeout", "x", "0 to 100000000"), ("--tcp", "x:y", "0 to 65535"),
+            ("--health", "70000", "0 to 65535"),
         ):
-            status, output = run("--unix", path, *words, BOXES)
-            self.assertEqual((status, output.splitlines()[-1][:22]), (2, f"rtfilter-serve: error:"), words)
+            status, output = run("--unix", path, option, word, BOXES)
+            number = repr(word.rpartition(":")[2])
+            message = rf"rtfilter-serve: error: argument {option}( \S+)?: {number} is no number from {ends}"
+            self.assertEqual(status, 2, option)
+            self.assertRegex(output.splitlines()[-1], f"^{message}$")
 
 
 class Surroundings(Case):

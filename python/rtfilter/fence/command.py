@@ -99,8 +99,8 @@ def run(args: argparse.Namespace, requests: queue.SimpleQueue[None]) -> None:
             try:
                 fence.zones = load()
                 say(NAME, f"zones: {len(fence.zones.zones)}")
-            except Exception as error:  # whatever it is: positions are answered by the zones of before
-                say(NAME, f"{error}; the zones are those of before")
+            except Exception as error:  # whatever it is: the old zones answer positions
+                say(NAME, f"{error}; the old zones stay")
 
     threading.Thread(target=keep_loaded, daemon=True).start()
     answer(fence, args.first_line)

@@ -37,7 +37,7 @@ class Boxes:
         """What answers queries."""
         frame = read(files, self.found.count(All(), on=range(1, LAYERS)) > 0)
         if len(frame) != len(self.found):
-            raise ValueError("the table has changed while it was read")
+            raise ValueError(f"{files.table}: the table has changed while it was read: load it again")
         frame = frame.sort_values("id", kind="stable")
         self._ids = frame["id"].to_numpy()
         self._boxes = numpy.ascontiguousarray(frame[FIELDS[1:]].to_numpy("i8"))
@@ -46,7 +46,7 @@ class Boxes:
         self.layers = {number: known.get(number, f"layer {number}") for number in layers}
         """The names of the layers that have boxes."""
         if len({"density", *self.layers.values()}) <= len(self.layers):
-            raise ValueError("two layers have the same name")
+            raise ValueError(f"{files.layers}: two layers have the same name, or one has the name density")
         self.counts = LevelCounts(self._boxes)
 
     def __len__(self) -> int:

@@ -10,7 +10,7 @@ from pathlib import Path
 
 from aiohttp import web
 
-from .. import __version__
+from .. import TableError, __version__
 from .._console import say
 from .boxes import Boxes, Files
 from .server import Served, Server
@@ -31,12 +31,12 @@ def arguments() -> argparse.Namespace:
     parser.add_argument("--names", metavar="FILE", help="CSV file of ids and names of boxes")
     parser.add_argument("--layers", metavar="FILE", help="CSV file of layers, 0 to 63, and their names, all different (default layer 3 and so on)")
     parser.add_argument("--listen", default="127.0.0.1", metavar="ADDRESS", help="address to listen on (default 127.0.0.1)")
-    parser.add_argument("--port", type=int, default=8080, help="port to listen on, 0 for any free one (default 8080)")
+    parser.add_argument("--port", type=int, default=8080, metavar="PORT", help="port to listen on, 0 for any free one (default 8080)")
     parser.add_argument("--reuse-port", action="store_true", help="let several processes listen on the port, each with its own table")
     parser.add_argument("--host", action="append", default=[], metavar="NAME", help="another name of this server, as behind a proxy; may be repeated")
     parser.add_argument("--url", metavar="URL", help="the server's address behind a proxy, with a slash at its end (default http and the Host)")
     parser.add_argument(
-        "--origin", action="append", default=[],
+        "--origin", action="append", default=[], metavar="ORIGIN",
         help="origin whose pages may read replies, as https://maps.example.org, * for any, null for files; may be repeated",
     )  # fmt: skip
     parser.add_argument("--max-age", type=int, default=60, metavar="SECONDS", help="time that a client may keep a tile (default 60)")
@@ -47,7 +47,7 @@ def arguments() -> argparse.Namespace:
     parser.add_argument("--version", action="version", version=f"{NAME} {__version__}", help="print the version")
     args = parser.parse_args()
     if args.max_age < 0:
-        parser.error("an age is 0 or more")
+        parser.error("argument --max-age: 0 or more seconds")
     return args
 
 
@@ -97,7 +97,11 @@ def loaded(args: argparse.Namespace, generation: int = 1) -> Served:
         if name is not None:
             with open(name, "rb") as file:
                 made_of.update(hashlib.file_digest(file, "blake2b").digest())
-    return Served(Views(Boxes(Files(args.table, args.header, args.names, args.layers))), made_of.hexdigest(), generation)
+    try:
+        boxes = Boxes(Files(args.table, args.header, args.names, args.layers))
+    except TableError as error:
+        raise ValueError(f"{args.table}: {error}") from error
+    return Served(Views(boxes), made_of.hexdigest(), generation)
 
 
 async def keep_loaded(args: argparse.Namespace, server: Server, again: asyncio.Event) -> None:
@@ -110,7 +114,7 @@ async def keep_loaded(args: argparse.Namespace, server: Server, again: asyncio.E
             say(NAME, f"the table is exchanged: {len(server.served.views)} boxes")
         except Exception as error:  # whatever it is: requests are answered from the table that is there
             server.loads_failed += 1
-            say(NAME, f"{error}; the table is the one of before")
+            say(NAME, f"{error}; the old table stays")
 
 
 def log_accesses(name: str | None) -> None:

@@ -124,12 +124,12 @@ def write(folder: Path, rows: list[Row], names: list[str]) -> None:
 
 def main() -> None:
     parser = argparse.ArgumentParser(prog="rtfilter.tiles.make_map", description="Makes a map of a country that doesn't exist.")
-    parser.add_argument("folder", metavar="FOLDER", type=Path, help="where boxes.csv, names.csv and layers.csv are written")
-    parser.add_argument("--boxes", type=int, default=100_000, metavar="N", help="the number of boxes, 1000 or more (100000)")
-    parser.add_argument("--seed", type=int, default=1, metavar="S", help="of what is random (1)")
+    parser.add_argument("folder", metavar="FOLDER", type=Path, help="folder for boxes.csv, names.csv and layers.csv")
+    parser.add_argument("--boxes", type=int, default=100_000, metavar="N", help="boxes, 1000 or more (default 100000)")
+    parser.add_argument("--seed", type=int, default=1, metavar="S", help="seed of the random numbers (default 1)")
     args = parser.parse_args()
     if args.boxes < 1000:
-        parser.error("a map has 1000 boxes or more")
+        parser.error("argument --boxes: 1000 or more")
     write(args.folder, *some_map(random.Random(args.seed), args.boxes))
 
 

@@ -19,7 +19,7 @@ from support import LONGEST, environment
 PARK, LAKE = feature("park", square(0, 0, 10)), feature("lake", square(20, 0, 10))
 WIDER = feature("park", square(0, 0, 15), name="Park", layer="green")
 LATE = "older than the last position of its device"
-KEPT = "; the zones are those of before"
+KEPT = "; the old zones stay"
 ENDS = [it for it in (signal.SIGTERM, signal.SIGINT) if signal.getsignal(it) != signal.SIG_IGN]
 Start = Callable[..., Running]
 
@@ -122,11 +122,13 @@ def test_a_load_that_does_not_end(start: Start, zones: Path) -> None:
     pipe = zones.with_suffix(".pipe")
     os.mkfifo(pipe)
     pipe.replace(zones)
-    for number in range(3):
-        fence.process.send_signal(signal.SIGHUP)
+    threads = set()
+    for number in range(4):
         fence.send(f"{number},1,1,1")
         assert brief(fence.events.some(1)) == [(str(number), "enter", "park")]
-    assert len(os.listdir(f"/proc/{fence.process.pid}/task")) == 2
+        threads.add(len(os.listdir(f"/proc/{fence.process.pid}/task")))
+        fence.process.send_signal(signal.SIGHUP)
+    assert threads == {3}, "one reads the input, one loads zones, one waits for signals"
     fence.process.send_signal(signal.SIGTERM)
     assert fence.ended() == (0, [])
 

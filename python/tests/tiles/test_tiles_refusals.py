@@ -138,7 +138,7 @@ class Tables(unittest.TestCase):
     def test_a_faulty_table(self) -> None:
         table = Path(self.enterContext(tempfile.TemporaryDirectory()), "boxes.csv")
         table.write_text("1,0,1,0,1\n1,0,1,0,1\n")
-        with self.assertRaisesRegex(RuntimeError, "^rtfilter-tiles: table record 2: repeated id$"):
+        with self.assertRaisesRegex(RuntimeError, f"^rtfilter-tiles: {table}: table record 2: repeated id$"):
             Server(table)
 
     def test_names_that_are_none(self) -> None:
@@ -147,8 +147,9 @@ class Tables(unittest.TestCase):
         for text, message in (
             ("3,x\nid,name\n", "names.csv, line 2: not a number and a name\n"),
             ("3,x\n4\n", "names.csv, line 2: not a number and a name\n"),
-            ("3,x\n4,x\n", "rtfilter-tiles: two layers have the same name\n"),
-            ("4,layer 3\n", "rtfilter-tiles: two layers have the same name\n"),
+            ("3,x\n4,x\n", "names.csv: two layers have the same name, or one has the name density\n"),
+            ("3,density\n", "names.csv: two layers have the same name, or one has the name density\n"),
+            ("4,layer 3\n", "names.csv: two layers have the same name, or one has the name density\n"),
         ):
             (folder / "names.csv").write_text(text)
             with self.assertRaises(RuntimeError) as raised:

@@ -330,7 +330,7 @@ class Reloads(unittest.TestCase):
         self.assertEqual(status, 0)
         self.assertEqual(errors.splitlines(), [
             "rtfilter-tiles: the table is exchanged: 7 boxes", "rtfilter-tiles: the table is exchanged: 9 boxes",
-            "rtfilter-tiles: table record 6: wrong number of fields (1); the table is the one of before",
+            f"rtfilter-tiles: {table}: table record 6: wrong number of fields (1); the old table stays",
         ])  # fmt: skip
 
     def test_several_on_one_port(self) -> None:
