@@ -55,12 +55,12 @@ fn names(alloc: Global, words: &[&str]) -> Result<Vec<Name>, AllocError> {
     Ok(names)
 }
 
-// Whether an answer is the one that is wanted.
-fn is_wanted(
+// Whether an answer is the expected one.
+fn is_expected(
     told: &Result<Invocation, ArgFault>,
-    wanted: Result<(u8, Option<&str>), ArgFault>,
+    expected: Result<(u8, Option<&str>), ArgFault>,
 ) -> bool {
-    match (told, wanted) {
+    match (told, expected) {
         (Ok(invocation), Ok((fanout, queries))) => {
             let named = match &invocation.queries {
                 Some(name) => Some(name.text()),
@@ -70,23 +70,23 @@ fn is_wanted(
                 && invocation.table.text() == "t.csv"
                 && named == queries
         }
-        (Err(fault), Err(wanted)) => *fault == wanted,
+        (Err(fault), Err(expected)) => *fault == expected,
         _ => false,
     }
 }
 
 #[test]
 fn refused_settings_are_told(rt: HostRuntime) -> Result<(), Fail> {
-    for (words, wanted) in ASKED {
+    for (words, expected) in ASKED {
         let Ok(names) = names(rt.alloc(), words) else {
             return Err(Fail::new("refused beforehand"));
         };
         let told = settings_of(rt.alloc(), names.as_slice());
         if let Err(ArgFault::Memory) = &told {
-            assert!(rt; is_wanted(&settings_of(rt.alloc(), names.as_slice()), wanted));
+            assert!(rt; is_expected(&settings_of(rt.alloc(), names.as_slice()), expected));
             return Err(Fail::new("told as refused"));
         }
-        assert!(rt; is_wanted(&told, wanted));
+        assert!(rt; is_expected(&told, expected));
     }
     Ok(())
 }

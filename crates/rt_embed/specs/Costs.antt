@@ -15,21 +15,21 @@ use Rattle.rt_embed.specs.declared.vertex.Vertex.{Vertex}
 unfoldable pub opened_by_text : Packed → List ℕ → ℕ
 opened_by_text tree lines = opened_by_lines (loaded_tree tree) (numbered_lines lines true)
 
--- the least of a limit, if there is one, and of how many answers are wanted
-abbrev pub limit_within : (limit : Option ℕ) → (wanted : ℕ) → ℕ
-limit_within limit wanted = option_map_or (min wanted) limit wanted
+-- the least of a limit, if there is one, and of how many answers are needed
+abbrev pub limit_within : (limit : Option ℕ) → (needed : ℕ) → ℕ
+limit_within limit needed = option_map_or (min needed) limit needed
 
--- how many nodes a find opens for a question, where so many of its answers are wanted at most
-abbrev pub opened_to_find : Packed → (wanted : ℕ) → Question → ℕ
-opened_to_find tree wanted asked =
-    opened_by_search (meaning_of asked.region asked.layers asked.order) tree (Some (limit_within asked.limit wanted))
+-- how many nodes a find opens for a question, where so many of its answers are needed at most
+abbrev pub opened_to_find : Packed → (needed : ℕ) → Question → ℕ
+opened_to_find tree needed asked =
+    opened_by_search (meaning_of asked.region asked.layers asked.order) tree (Some (limit_within asked.limit needed))
 
--- for one query after the other, where so many of all their answers are wanted at most
-abbrev pub opened_by_finds : Packed → (vertices : List Vertex) → (wanted : ℕ) → List PlainQuery → ℕ
-opened_by_finds tree vertices wanted [] = 0
-opened_by_finds tree vertices wanted (query ∷ queries) =
-    option_map_or (opened_to_find tree wanted) (question_of vertices query) 0
-    + opened_by_finds tree vertices (wanted - length (list_of tree.entries vertices query)) queries
+-- for one query after the other, where so many of all their answers are needed at most
+abbrev pub opened_by_finds : Packed → (vertices : List Vertex) → (needed : ℕ) → List PlainQuery → ℕ
+opened_by_finds tree vertices needed [] = 0
+opened_by_finds tree vertices needed (query ∷ queries) =
+    option_map_or (opened_to_find tree needed) (question_of vertices query) 0
+    + opened_by_finds tree vertices (needed - length (list_of tree.entries vertices query)) queries
 
 -- how many nodes are opened to measure a question: for the number of its boxes as many as a count costs
 abbrev pub opened_to_measure : Packed → Measure → Question → ℕ

@@ -25,10 +25,10 @@ pub record IsPut (list : List Answer) (from to : Position) (ids ids' : List ℤ)
   pub skip : to.skip ≡ from.skip - length list
 
 -- the first so many answers are found up to this limit: there is one at most so great, or fewer boxes than so many
-abbrev pub IsWithin : (limit : Option ℕ) → (wanted boxes : ℕ) → Type 0
-IsWithin (Some limit) wanted boxes = limit ≤ wanted
-IsWithin None wanted boxes = boxes < wanted
+abbrev pub IsWithin : (limit : Option ℕ) → (needed boxes : ℕ) → Type 0
+IsWithin (Some limit) needed boxes = limit ≤ needed
+IsWithin None needed boxes = boxes < needed
 
--- how many answers are wanted at most from a place on: those that are passed over or have a place, and one
-abbrev pub wanted_from : Position → (places : ℕ) → ℕ
-wanted_from from places = from.skip + (places - from.end) + 1
+-- how many answers are needed at most from a place on: those that are passed over or have a place, and one
+abbrev pub needed_from : Position → (places : ℕ) → ℕ
+needed_from from places = from.skip + (places - from.end) + 1

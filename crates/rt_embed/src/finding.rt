@@ -8,7 +8,7 @@ ghost use Rattle.rt_search.specs.{Answers.{Answer, answers}, Work.{CountsOn, ope
 ghost use Rattle.rt_filter.specs.Replies.{meaning_of};
 ghost use Rattle.rt_embed.specs.{Findings.{Begins, HasFound, answers_to, id_of, score_of}};
 ghost use Rattle.rt_embed.specs.{Costs.{limit_within, opened_by_finds, opened_to_find}};
-ghost use Rattle.rt_embed.specs.{Puts.{IsPut, IsPutBehind, IsWithin, wanted_from}};
+ghost use Rattle.rt_embed.specs.{Puts.{IsPut, IsPutBehind, IsWithin, needed_from}};
 
 use crate::plain_query::PlainQuery;
 use crate::question::Question;
@@ -55,8 +55,8 @@ pub(crate) fn find_each(
     requires capacity { length tree.now.entries ≤ frontier.capacity }
     ensures found { HasFound tree.now.entries vertices.now skip queries.now
         ends.new ids.new scores.new result.0 }
-    ensures worked { let wanted = skip + length ids.old + 1 in CountsOn frontier.opened
-        (opened_by_finds tree.now vertices.now wanted (take (result.0.done + 1) queries.now))
+    ensures worked { let needed = skip + length ids.old + 1 in CountsOn frontier.opened
+        (opened_by_finds tree.now vertices.now needed (take (result.0.done + 1) queries.now))
         result.1.opened }
     ensures capacity { result.1.capacity ≡ frontier.capacity }
 {
@@ -121,8 +121,8 @@ fn find_one(
     requires place { from.end ≤ length ids.old }
     ensures put { IsPut (answers_to tree.now.entries question.now) from result.0
         ids.old ids.new scores.old scores.new }
-    ensures worked { let wanted = wanted_from from (length ids.old) in
-        CountsOn frontier.opened (opened_to_find tree.now wanted question.now) result.1.opened }
+    ensures worked { let needed = needed_from from (length ids.old) in
+        CountsOn frontier.opened (opened_to_find tree.now needed question.now) result.1.opened }
     ensures capacity { result.1.capacity ≡ frontier.capacity }
 {
     let limit = limit_within(question.limit, from.skip, ids.len() - from.end, tree.len());
@@ -142,7 +142,7 @@ fn put_up_to(
 ) -> (Position, Frontier)
     requires capacity { length tree.now.entries ≤ frontier.capacity }
     requires place { from.end ≤ length ids.old }
-    requires within { IsWithin limit (wanted_from from (length ids.old))
+    requires within { IsWithin limit (needed_from from (length ids.old))
         (length tree.now.entries) }
     ensures put { let asked = question.now in
         let meaning = meaning_of asked.region asked.layers asked.order in
@@ -165,19 +165,19 @@ fn put_up_to(
     )
 }
 
-// The least of a limit and of how many answers are wanted: those that are passed over or have a place, and one. None where the
+// The least of a limit and of how many answers are needed: those that are passed over or have a place, and one. None where the
 // boxes are fewer than these.
 fn limit_within(limit: Option<u64>, skip: usize, places: usize, boxes: u32) -> Option<u64>
     ensures within { IsWithin result (skip + places + 1) boxes }
     ensures least { MatchOption result (limit ≡ None)
         (λ least. least ≡ limit_within limit (skip + places + 1)) }
 {
-    let wanted = (skip as u64)
+    let needed = (skip as u64)
         .saturating_add(places as u64)
         .saturating_add(1);
     match limit {
-        Some(limit) => Some(limit.min(wanted)),
-        None if wanted <= u64::from(boxes) => Some(wanted),
+        Some(limit) => Some(limit.min(needed)),
+        None if needed <= u64::from(boxes) => Some(needed),
         None => None,
     }
 }
@@ -194,7 +194,7 @@ impl<'a> Job for PutAnswers<'a> {
     type Outcome = (Position, Frontier);
 
     ghost runs = { λ job tree limit. (job.from.end ≤ length job.ids.now)
-        × IsWithin limit (wanted_from job.from (length job.ids.now)) (length tree.entries) };
+        × IsWithin limit (needed_from job.from (length job.ids.now)) (length tree.entries) };
 
     ghost does = { λ old new frontier found opened_to_find count opened_to_count outcome.
         (new.ids.ghost_name ≡ old.ids.ghost_name)
@@ -236,7 +236,7 @@ fn put_answers<G: Geometry + Drop>(
 ) -> (Position, Frontier)
     requires capacity { length tree.now.entries ≤ frontier.capacity }
     requires place { from.end ≤ length ids.old }
-    requires within { IsWithin limit (wanted_from from (length ids.old))
+    requires within { IsWithin limit (needed_from from (length ids.old))
         (length tree.now.entries) }
     ensures put { IsPut (answers tree.now.entries (G.meaning geometry) limit) from result.0
         ids.old ids.new scores.old scores.new }

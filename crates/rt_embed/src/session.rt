@@ -165,8 +165,8 @@ impl Session {
         ensures untouched { OnErr result ((ends.new ≡ ends.old) × (ids.new ≡ ids.old)
             × (scores.new ≡ scores.old)) }
         // No query is searched for more answers than are left out, have a place, or are the next one.
-        ensures worked { let wanted = skip + length ids.old + 1 in IfOk result (λ found.
-            HasOpened self.old.opened (opened_by_finds self.old.tree vertices.now wanted
+        ensures worked { let needed = skip + length ids.old + 1 in IfOk result (λ found.
+            HasOpened self.old.opened (opened_by_finds self.old.tree vertices.now needed
             (take (found.done + 1) queries.now)) self.new.opened) }
         // With a frontier the call can't fail.
         ensures made { IsSome self.old.opened → IsOk result }

@@ -125,10 +125,10 @@ fn three(rt: &impl Abort) -> [PlainQuery; 3] {
 /// What they find, one list behind the other.
 const THEIRS: [i64; 8] = [2, 5, 1, 1, 2, 3, 4, 5];
 
-// The first ids are those that are wanted, as far as there are both.
+// The first ids are the expected ones, as far as there are both.
 fn expect_begins(rt: &impl Abort, ids: &[i64], want: &[i64]) {
-    for (id, wanted) in ids.iter().zip(want) {
-        expect_eq(rt, *id, *wanted);
+    for (id, expected) in ids.iter().zip(want) {
+        expect_eq(rt, *id, *expected);
     }
 }
 

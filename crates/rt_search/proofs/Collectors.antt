@@ -48,7 +48,7 @@ pub entries_join : (old new : Limited) (xs : List Answer)
 entries_join old new [] h = grind (arith, enough_itself)
 entries_join old new (a ∷ xs) h =
     let rest = entries_join h.0 new xs h.1.1 in
-    let one = enough_put_all old.wanted (map item_of xs) h.0.items (put item_cmp (item_of a) old.items) h.1.0.items in
+    let one = enough_put_all old.needed (map item_of xs) h.0.items (put item_cmp (item_of a) old.items) h.1.0.items in
     grind (arith, put_all-put, item_order, enough_trans)
 
 pub entries_join_all : (old new : Limited) (xs : List Answer)

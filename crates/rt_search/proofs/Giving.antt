@@ -45,10 +45,10 @@ limited_end (Some k) g xs h = drop_all g (take k xs) (omega (arith, length-take 
 pub next_in_limit : (limit : Option ℕ) (g : ℕ) → IsInLimit limit g → limit ≢ Some g → IsInLimit limit (suc g)
 next_in_limit limit g le n = grind arith
 
--- ---- how many are still wanted
+-- ---- how many are still needed
 
-next_still : (wanted limit : Option ℕ) (g : ℕ) → limit ≢ Some g → IfSome wanted (λ n. limit ≡ Some (g + n))
-    → IfSome (one_less wanted) (λ n. limit ≡ Some (suc g + n))
+next_still : (needed limit : Option ℕ) (g : ℕ) → limit ≢ Some g → IfSome needed (λ n. limit ≡ Some (g + n))
+    → IfSome (one_less needed) (λ n. limit ≡ Some (suc g + n))
 next_still None limit g more h = tt
 next_still (Some zero) limit g more h = absurd (more (h ∙ ap Some (omega arith)))
 next_still (Some (suc n)) limit g more h = h ∙ ap Some (omega arith)
@@ -100,14 +100,14 @@ module _ {gathers : Bool} {meaning : Meaning} {t : Packed} {limit : Option ℕ} 
 
   module _ (queued : gathers ≡ false) (same : hits.capacity ≡ queue.capacity)
       (room : queue.capacity ≡ old_queue.capacity) where
-    pub give : {a : Answer} → queue.wanted ≡ one_less old_queue.wanted → IsFound meaning t opened' asked' queue.wanted
+    pub give : {a : Answer} → queue.needed ≡ one_less old_queue.needed → IsFound meaning t opened' asked' queue.needed
         (drop given (answers t.entries meaning None)) a queue.items
         → IsGiven gathers meaning t limit given opened' asked' a queue hits
     give {a} less found =
         let was = going.giving queued in
         let worked : HasWorked meaning t (Some (suc given)) opened' asked' = search (rules, work_after) in
         let few = few_given meaning t found.state.state.tree None given a found.rest found.first in
-        let now : IsGiving meaning t limit (suc given) opened' asked' queue.capacity queue.wanted queue.items =
+        let now : IsGiving meaning t limit (suc given) opened' asked' queue.capacity queue.needed queue.items =
         search (rules, drop_step, next_in_limit, next_still) in
         record {
           going = record { same_room = same; giving = λ _. rw (add-one given) now; gathering = λ h. absurd (grind arith) };
@@ -116,9 +116,9 @@ module _ {gathers : Bool} {meaning : Meaning} {t : Packed} {limit : Option ℕ} 
           few = few;
         }
 
-    pub end : queue.wanted ≡ old_queue.wanted → IsOver meaning t opened' asked' queue.wanted
+    pub end : queue.needed ≡ old_queue.needed → IsOver meaning t opened' asked' queue.needed
         (drop given (answers t.entries meaning None)) queue.items
         → HasEnded gathers meaning t limit given opened' asked' queue hits
-    end same_wanted over =
+    end same_needed over =
         let was = going.giving queued in
         search (rules, work_in_all, limited_end)

@@ -29,10 +29,10 @@ module _ (meaning : Meaning) (t : Packed) (sound : IsSound t)
     empty_answers none = grind (arith, cases_lt, nil_from_length)
 
     -- a search has begun
-    pub started : (limit : Option ℕ) (capacity : ℕ) (wanted : Option ℕ) (items : List Item)
-        → length t.entries ≤ capacity → IfSome wanted (λ n. limit ≡ Some n) → IsEnough wanted items (root_items t)
-        → IsGiving meaning t limit 0 0 0 capacity wanted items
-    started limit capacity wanted items room first enough = record {
+    pub started : (limit : Option ℕ) (capacity : ℕ) (needed : Option ℕ) (items : List Item)
+        → length t.entries ≤ capacity → IfSome needed (λ n. limit ≡ Some n) → IsEnough needed items (root_items t)
+        → IsGiving meaning t limit 0 0 0 capacity needed items
+    started limit capacity needed items room first enough = record {
       state = record {
         all = root_items t;
         state =

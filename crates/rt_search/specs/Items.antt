@@ -36,10 +36,10 @@ pub record Waiting : Type 0 where
   pub items : List Item
   pub capacity : ℕ
 
--- and how many entries are still wanted, where that is known: what comes behind so many needn't be kept
+-- and how many entries are still needed, where that is known: what comes behind so many needn't be kept
 pub record Limited : Type 0 where
   pub items : List Item
-  pub wanted : Option ℕ
+  pub needed : Option ℕ
   pub capacity : ℕ
 
 -- what was found, and whether it is in order already, so that nothing more may join

@@ -67,7 +67,7 @@ IsEntry (Entry id) = Unit {0}
 abbrev pub AllEntries : List Item → Type 0
 AllEntries = AllByRecursion (λ x. IsEntry x.place)
 
--- an item joins, where it is wanted
+-- an item joins, where it is needed
 abbrev pub offered : (is_accepted : Bool) → Item → List Item → List Item
 offered is_accepted x items = if is_accepted then put item_cmp x items else items
 

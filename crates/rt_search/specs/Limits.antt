@@ -23,52 +23,52 @@ front [] n = []
 front (x ∷ xs) zero = []
 front (x ∷ xs) (suc n) = x ∷ front xs (suc n - entries_at x.place)
 
--- those up to the last entry that is wanted: all where no number is known
-abbrev pub front_of : (wanted : Option ℕ) → List Item → List Item
+-- those up to the last entry that is needed: all where no number is known
+abbrev pub front_of : (needed : Option ℕ) → List Item → List Item
 front_of None items = items
 front_of (Some n) items = front items n
 
--- the same as all, as far as is wanted, and not longer than all
-pub record IsEnough (wanted : Option ℕ) (items all : List Item) : Type 0 where
-  pub same : front_of wanted items ≡ front_of wanted all
+-- the same as all, as far as is needed, and not longer than all
+pub record IsEnough (needed : Option ℕ) (items all : List Item) : Type 0 where
+  pub same : front_of needed items ≡ front_of needed all
   pub few : length items ≤ length all
 
 -- enough of these items wait, and nothing else has changed
 pub record KeepsEnough (all : List Item) (old new : Limited) : Type 0 where
-  pub items : IsEnough old.wanted new.items all
-  pub wanted : new.wanted ≡ old.wanted
+  pub items : IsEnough old.needed new.items all
+  pub needed : new.needed ≡ old.needed
   pub capacity : new.capacity ≡ old.capacity
 
 -- an item joined
 abbrev pub IsPut : Item → (old new : Limited) → Type 0
 IsPut x old new = KeepsEnough (put item_cmp x old.items) old new
 
--- how many are wanted once an entry was taken out
-abbrev pub one_less : (wanted : Option ℕ) → Option ℕ
+-- how many are needed once an entry was taken out
+abbrev pub one_less : (needed : Option ℕ) → Option ℕ
 one_less None = None
 one_less (Some n) = Some (n - 1)
 
-abbrev pub less_at : Place → (wanted : Option ℕ) → Option ℕ
-less_at (Node n) wanted = wanted
-less_at (Entry id) wanted = one_less wanted
+abbrev pub less_at : Place → (needed : Option ℕ) → Option ℕ
+less_at (Node n) needed = needed
+less_at (Entry id) needed = one_less needed
 
 -- and once an item was, or none
-abbrev pub wanted_after : Option Item → (wanted : Option ℕ) → Option ℕ
-wanted_after None wanted = wanted
-wanted_after (Some x) wanted = less_at x.place wanted
+abbrev pub needed_after : Option Item → (needed : Option ℕ) → Option ℕ
+needed_after None needed = needed
+needed_after (Some x) needed = less_at x.place needed
 
--- nothing waits, for a search up to a limit, if there is one: where it is known how many are wanted, it is the limit, and
+-- nothing waits, for a search up to a limit, if there is one: where it is known how many are needed, it is the limit, and
 -- with a limit of at most 128 it is known
 pub record IsCleared (limit : Option ℕ) (old new : Limited) : Type 0 where
   pub items : new.items ≡ []
-  pub wanted : IfSome new.wanted (λ n. limit ≡ Some n)
-  pub known : IfSome limit (λ n. n ≤ 128 → new.wanted ≡ Some n)
+  pub needed : IfSome new.needed (λ n. limit ≡ Some n)
+  pub known : IfSome limit (λ n. n ≤ 128 → new.needed ≡ Some n)
   pub capacity : new.capacity ≡ old.capacity
 
 -- what stood first was taken out, if anything was there
 pub record IsTakenFrom (old new : Limited) (x : Option Item) : Type 0 where
   pub taken : IsTakenOut x old.items new.items
-  pub wanted : new.wanted ≡ wanted_after x old.wanted
+  pub needed : new.needed ≡ needed_after x old.needed
   pub capacity : new.capacity ≡ old.capacity
 
 -- ---- the entries that come first among those found
@@ -81,8 +81,8 @@ IsClimbing (k ∷ ks) = AllByRecursion (λ j. k.0 ≤ j.0) ks × IsClimbing ks
 abbrev pub but_last : List (Reverse ℕ) → List (Reverse ℕ)
 but_last ks = take (length ks - 1) ks
 
--- those that weren't taken out climb, and all are no more than were wanted, of which there are few; none is above the
--- bound, which bounds nothing while more are wanted
+-- those that weren't taken out climb, and all are no more than were needed, of which there are few; none is above the
+-- bound, which bounds nothing while more are needed
 pub record IsChosen {A : Type 0} (keys : Vec (Reverse ℕ) A) (taken bound limit : ℕ) : Type 0 where
   pub climbing : IsClimbing (drop taken keys.items)
   pub bounded : AllByRecursion (λ k. k.0 ≤ bound) (drop taken keys.items)
@@ -93,12 +93,12 @@ pub record IsChosen {A : Type 0} (keys : Vec (Reverse ℕ) A) (taken bound limit
 
 -- ---- in one of two ways
 
--- the keys that wait: those that weren't taken out, where few are wanted, or else all in the pool
+-- the keys that wait: those that weren't taken out, where few are needed, or else all in the pool
 abbrev pub waiting_keys : (limit : Option ℕ) → (taken : ℕ) → (keys pooled : List (Reverse ℕ)) → List (Reverse ℕ)
 waiting_keys None taken keys pooled = pooled
 waiting_keys (Some limit) taken keys pooled = drop taken keys
 
--- there is room for as many as can be wanted, and in the pool for so many, and what is kept fits
+-- there is room for as many as can be needed, and in the pool for so many, and what is kept fits
 pub record HasEntries {A : Type 0} (keys : Vec (Reverse ℕ) A) (taken bound : ℕ) (limit : Option ℕ)
     (pool : Pooled) (capacity : ℕ) : Type 0 where
   pub chosen : IfSome limit (IsChosen keys taken bound)

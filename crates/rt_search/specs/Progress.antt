@@ -87,21 +87,21 @@ pub record IsTaken (meaning : Meaning) (t : Packed) (opened asked : ℕ) (x : It
 -- a search that needn't keep more than its limit makes necessary: what waits is enough of what would wait without a
 -- limit, and that stands for the answers to come
 pub record IsUnderWay (meaning : Meaning) (t : Packed)
-    (opened asked : ℕ) (wanted : Option ℕ) (to_come : List Answer) (items : List Item) : Type 0 where
+    (opened asked : ℕ) (needed : Option ℕ) (to_come : List Answer) (items : List Item) : Type 0 where
   pub all : List Item
   pub state : IsSearching meaning t opened asked all
   pub rising : IsRising all
   pub follows : remaining t meaning all ≡ to_come
-  pub enough : IsEnough wanted items all
+  pub enough : IsEnough needed items all
 
 -- an item was taken out of such a search, and these wait
 pub record IsOut (meaning : Meaning) (t : Packed)
-    (opened asked : ℕ) (wanted : Option ℕ) (to_come : List Answer) (x : Item) (items : List Item) : Type 0 where
+    (opened asked : ℕ) (needed : Option ℕ) (to_come : List Answer) (x : Item) (items : List Item) : Type 0 where
   pub others : List Item
   pub taken : IsTaken meaning t opened asked x others
   pub rising : IsRising others
   pub follows : remaining t meaning (x ∷ others) ≡ to_come
-  pub enough : IsEnough wanted items others
+  pub enough : IsEnough needed items others
 
 -- it opened as many nodes and made as many checks as a bound makes necessary
 pub record HasReached (meaning : Meaning) (t : Packed) (bound : Option ℕ) (opened asked : ℕ) : Type 0 where
@@ -110,32 +110,32 @@ pub record HasReached (meaning : Meaning) (t : Packed) (bound : Option ℕ) (ope
 
 -- an answer was found, the first of those to come
 pub record IsFound (meaning : Meaning) (t : Packed)
-    (opened asked : ℕ) (wanted : Option ℕ) (to_come : List Answer) (a : Answer) (items : List Item) : Type 0
+    (opened asked : ℕ) (needed : Option ℕ) (to_come : List Answer) (a : Answer) (items : List Item) : Type 0
   where
     pub rest : List Answer
     pub first : to_come ≡ a ∷ rest
-    pub state : IsUnderWay meaning t opened asked wanted rest items
+    pub state : IsUnderWay meaning t opened asked needed rest items
     pub reached : HasReached meaning t (Some a.1) opened asked
 
 -- none is to come
 pub record IsOver (meaning : Meaning) (t : Packed)
-    (opened asked : ℕ) (wanted : Option ℕ) (to_come : List Answer) (items : List Item) : Type 0 where
+    (opened asked : ℕ) (needed : Option ℕ) (to_come : List Answer) (items : List Item) : Type 0 where
   pub none : to_come ≡ []
-  pub state : IsUnderWay meaning t opened asked wanted to_come items
+  pub state : IsUnderWay meaning t opened asked needed to_come items
   pub reached : HasReached meaning t None opened asked
 
--- no more answers were given than are wanted
+-- no more answers were given than are needed
 abbrev pub IsInLimit : (limit : Option ℕ) → (given : ℕ) → Type 0
 IsInLimit None given = Unit {0}
 IsInLimit (Some limit) given = given ≤ limit
 
 -- what holds of a search that has a queue
 pub record IsGiving (meaning : Meaning) (t : Packed)
-    (limit : Option ℕ) (given opened asked capacity : ℕ) (wanted : Option ℕ) (items : List Item) : Type 0 where
-  pub state : IsUnderWay meaning t opened asked wanted (drop given (answers t.entries meaning None)) items
+    (limit : Option ℕ) (given opened asked capacity : ℕ) (needed : Option ℕ) (items : List Item) : Type 0 where
+  pub state : IsUnderWay meaning t opened asked needed (drop given (answers t.entries meaning None)) items
   pub room : length t.entries ≤ capacity
   pub in_limit : IsInLimit limit given
-  pub still : IfSome wanted (λ n. limit ≡ Some (given + n))
+  pub still : IfSome needed (λ n. limit ≡ Some (given + n))
   pub stopped : limit ≡ Some given → HasWorked meaning t limit opened asked
 
 -- ---- all answers at once
@@ -177,7 +177,7 @@ pub record IsGoing (gathers : Bool) (meaning : Meaning) (t : Packed)
     (limit : Option ℕ) (given opened asked : ℕ) (queue : Limited) (hits : Gathered) : Type 0 where
   pub same_room : hits.capacity ≡ queue.capacity
   pub giving : gathers ≡ false
-      → IsGiving meaning t limit given opened asked queue.capacity queue.wanted queue.items
+      → IsGiving meaning t limit given opened asked queue.capacity queue.needed queue.items
   pub gathering : gathers ≡ true → IsGathering meaning t limit given opened asked queue.items hits
 
 -- an answer is given

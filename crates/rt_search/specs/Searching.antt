@@ -11,7 +11,7 @@ pub record Workspace : Type 0 where
   pub capacity : ℕ
   pub opened : ℕ
 
--- what is searched and for what, how many answers are wanted, if not all, those still to come, and how many were given;
+-- what is searched and for what, how many answers are needed, if not all, those still to come, and how many were given;
 -- the nodes opened and the checks made so far, the room of the frontier, and how many nodes were opened in it before
 pub record Searching (G : Type 0) : Type 0 where
   pub tree : Packed

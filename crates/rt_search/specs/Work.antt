@@ -69,7 +69,7 @@ is_kept other = true
 abbrev pub is_reached : (bound : Option ℕ) → Verdict → Bool
 is_reached bound v = is_kept v.within && option_map_or (nat_le v.score) bound true
 
--- the score of the last of so many answers: no bound where all are wanted, or fewer are found
+-- the score of the last of so many answers: no bound where all are needed, or fewer are found
 abbrev pub last_score : List Answer → (limit : Option ℕ) → Option ℕ
 last_score found limit = option_and_then (λ limit. option_map (λ a. a.1) (slice_get found (limit - 1))) limit
 

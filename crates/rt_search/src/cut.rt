@@ -1,4 +1,4 @@
-//! A cut in a list: its least elements stay, and few more than are wanted.
+//! A cut in a list: its least elements stay, and few more than are needed.
 
 ghost use Rattle.std.specs.Prelude.{◌≡◌, ◌<◌, ◌≤◌, filter, length, nat_le, vec_capacity};
 ghost use Rattle.rt_search.specs.Kept.{IsCut, is_upto};
@@ -21,7 +21,7 @@ pub fn keep_least<T: Ord + Copy + Drop>(items: &mut Vec<Reverse<T>>, count: usiz
 }
 
 // An element that comes somewhat behind the first so many, as a sample tells. `None` where there are too few for one, or
-// more than half are wanted.
+// more than half are needed.
 fn bound_behind<T: Ord + Copy + Drop>(items: &[Reverse<T>], count: usize) -> Option<T> {
     let step = items.len() / SAMPLE;
     if step < 2 || items.len() / 2 < count {

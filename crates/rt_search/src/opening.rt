@@ -40,15 +40,15 @@ pub(crate) fn open<G: Geometry>(
 )
     requires capacity { length tree.now.entries ≤ queue.old.capacity }
     requires state { let meaning = G.meaning counted.old.geometry in (to_come : List Answer) ×
-        IsOut meaning tree.now opened.old counted.old.asked queue.old.wanted to_come
+        IsOut meaning tree.now opened.old counted.old.asked queue.old.needed to_come
         (item_at taken.score (place.Node taken.node)) queue.old.items }
     ensures state { let meaning = G.meaning counted.old.geometry in (to_come : List Answer) →
-        IsOut meaning tree.now opened.old counted.old.asked queue.old.wanted to_come
+        IsOut meaning tree.now opened.old counted.old.asked queue.old.needed to_come
         (item_at taken.score (place.Node taken.node)) queue.old.items →
-        IsUnderWay meaning tree.now opened.new counted.new.asked queue.new.wanted to_come
+        IsUnderWay meaning tree.now opened.new counted.new.asked queue.new.needed to_come
         queue.new.items }
     ensures more { opened.old < opened.new }
-    ensures wanted { queue.new.wanted ≡ queue.old.wanted }
+    ensures needed { queue.new.needed ≡ queue.old.needed }
     ensures capacity { queue.new.capacity ≡ queue.old.capacity }
     ensures geometry { counted.new.geometry ≡ counted.old.geometry }
 {

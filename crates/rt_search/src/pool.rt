@@ -1,4 +1,4 @@
-//! Keys of which the least are wanted.
+//! A priority queue of keys in two tiers: a heap of those that are near, and a list of those that are far.
 
 ghost use Rattle.std.specs.{BinaryHeap.{heap_capacity, heap_items}, Prelude.{◌≡◌, ◌<◌, ◌≤◌, ◌++◌, [], ◌∷◌, IfNone}};
 ghost use Rattle.std.specs.Prelude.{IfOk, IfSome, MatchOption, length, vec_capacity, IsPermutation};
@@ -14,7 +14,7 @@ use std::marker::Model;
 const FARTHER: u64 = 4;
 
 /// Keys of which the least are taken out. Those whose score is at most the edge are near, in a heap, and the others
-/// far, in no order. Most that a search finds are far and never wanted, so that they cost no more than to be written
+/// far, in no order. Most that a search finds are far and never needed, so that they cost no more than to be written
 /// down. Once none is near, the edge moves out, and the keys up to it move into the heap.
 ///
 /// It is seen as its keys, the near before the far, and its capacity, which is that of both.

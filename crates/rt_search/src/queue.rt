@@ -6,7 +6,7 @@ ghost use Rattle.std.specs.Prelude.{None, true};
 ghost use Rattle.rt_search.specs.{Items.{Limited, item_at, item_of}, Joining.{join_node}, Kept.{IsAhead, IsQueue}};
 ghost use Rattle.rt_search.specs.Kept.{IsTakenOut, in_order, narrow, node_item, queued, taken_item};
 ghost use Rattle.rt_search.specs.{Lemmas.{entries-fill}, Limits.{IsCleared, IsPut, KeepsEnough, IsTakenFrom}};
-ghost use Rattle.rt_search.specs.{Limits.{unlimited, wanted_after}, Pooling.{keys_in}, Work.{is_reached}};
+ghost use Rattle.rt_search.specs.{Limits.{unlimited, needed_after}, Pooling.{keys_in}, Work.{is_reached}};
 ghost use Rattle.rt_search.specs.declared.item.Place.TheVariants as place;
 
 use crate::entries::WaitingEntries;
@@ -23,7 +23,7 @@ use std::marker::Model;
 /// A priority queue of nodes that wait and entries that were found. The few items of either kind whose score is more
 /// than one word stand apart, since they come after all others.
 ///
-/// It is seen as the items that they are, in order, how many entries are still wanted, where that is known, and its
+/// It is seen as the items that they are, in order, how many entries are still needed, where that is known, and its
 /// capacity, which is that of each of the three.
 #[derive(Drop)]
 pub struct Queue {
@@ -38,7 +38,7 @@ impl Model for Queue {
 
     ghost view = { λ q. record {
       items = queued (keys_in q.nodes) q.entries.items q.wide.items;
-      wanted = q.entries.wanted;
+      needed = q.entries.needed;
       capacity = q.capacity;
     } };
 
@@ -146,7 +146,7 @@ fn take_narrow(nodes: &mut Pool, entries: &mut WaitingEntries) -> Taken
     ensures taken { IsTakenOut (taken_item result) (narrow (keys_in nodes.old) entries.old.items)
         (narrow (keys_in nodes.new) entries.new.items) }
     ensures low { IfSome (taken_item result) (λ x. x.score < 2 ^ 64) }
-    ensures wanted { entries.new.wanted ≡ wanted_after (taken_item result) entries.old.wanted }
+    ensures needed { entries.new.needed ≡ needed_after (taken_item result) entries.old.needed }
     ensures nodes { nodes.new.capacity ≡ nodes.old.capacity }
     ensures entries { entries.new.capacity ≡ entries.old.capacity }
 {
@@ -180,7 +180,7 @@ fn is_node_next(nodes: &Pool, entries: &WaitingEntries) -> bool
 fn take_wide(entries: &mut WaitingEntries, wide: &mut Wide) -> Taken
     requires { entries.old.items ≡ [] }
     ensures taken { IsTakenOut (taken_item result) wide.old.items wide.new.items }
-    ensures wanted { entries.new.wanted ≡ wanted_after (taken_item result) entries.old.wanted }
+    ensures needed { entries.new.needed ≡ needed_after (taken_item result) entries.old.needed }
     ensures entries { entries.new.items ≡ [] }
     ensures entries_capacity { entries.new.capacity ≡ entries.old.capacity }
     ensures wide_capacity { wide.new.capacity ≡ wide.old.capacity }

@@ -96,7 +96,7 @@ impl<'a, G: Geometry> Search<'a, G> {
         }
     }
 
-    /// The next answer, as its id and score. `None` where none is left or as many were given as are wanted, and from
+    /// The next answer, as its id and score. `None` where none is left or as many were given as are needed, and from
     /// then on.
     pub fn next(&mut self) -> Option<(i64, u128)>
         ensures answer { MatchOption result (self.old.to_come ≡ [])
@@ -286,20 +286,20 @@ fn pull<G: Geometry>(
     counted: &mut Counted<'_, G>,
     opened: &mut u64,
 ) -> Option<(i64, u128)>
-    requires more { queue.old.wanted ≢ Some 0 }
+    requires more { queue.old.needed ≢ Some 0 }
     requires capacity { length tree.now.entries ≤ queue.old.capacity }
     requires state { let meaning = G.meaning counted.old.geometry in (to_come : List Answer) ×
-        IsUnderWay meaning tree.now opened.old counted.old.asked queue.old.wanted to_come
+        IsUnderWay meaning tree.now opened.old counted.old.asked queue.old.needed to_come
         queue.old.items }
     ensures step { let meaning = G.meaning counted.old.geometry in (to_come : List Answer) →
-        IsUnderWay meaning tree.now opened.old counted.old.asked queue.old.wanted to_come
+        IsUnderWay meaning tree.now opened.old counted.old.asked queue.old.needed to_come
         queue.old.items → MatchOption result
-        (IsOver meaning tree.now opened.new counted.new.asked queue.new.wanted to_come
+        (IsOver meaning tree.now opened.new counted.new.asked queue.new.needed to_come
         queue.new.items)
-        (λ a. IsFound meaning tree.now opened.new counted.new.asked queue.new.wanted to_come a
+        (λ a. IsFound meaning tree.now opened.new counted.new.asked queue.new.needed to_come a
         queue.new.items) }
-    ensures wanted { MatchOption result (queue.new.wanted ≡ queue.old.wanted)
-        (λ _. queue.new.wanted ≡ one_less queue.old.wanted) }
+    ensures needed { MatchOption result (queue.new.needed ≡ queue.old.needed)
+        (λ _. queue.new.needed ≡ one_less queue.old.needed) }
     ensures capacity { queue.new.capacity ≡ queue.old.capacity }
     ensures geometry { counted.new.geometry ≡ counted.old.geometry }
 {

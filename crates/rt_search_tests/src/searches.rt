@@ -304,7 +304,7 @@ static FIRST_IN_WINDOW: Want<'static> = Want {
     asked: 9,
 };
 
-// However few are wanted, as no node has a score.
+// However few are needed, as no node has a score.
 #[test]
 fn nodes_without_a_score_are_opened_before_the_first_answer(rt: HostRuntime) {
     expect_search(&rt, &BOXES, &BY_ID, Some(2), &FIRST_TWO);
@@ -323,7 +323,7 @@ fn areas_are_scores_of_entries_alone(rt: HostRuntime) {
     expect_with_limits(&rt, &BOXES, &BY_AREA, &ALL_BY_AREA);
 }
 
-// Neither where none is wanted nor where there is none.
+// Neither where none is needed nor where there is none.
 #[test]
 fn nothing_is_opened_for_no_answer(rt: HostRuntime) {
     expect_search(&rt, &BOXES, &BY_ID, Some(0), &NOTHING);
@@ -588,7 +588,7 @@ fn expect_ids(rt: &(impl Abort + AllocGlobal), tree: &Tree, ids: &[i64]) {
     let _end = search.finish();
 }
 
-// Of many that are found those behind the limit are given up first: by a sample where at most half are wanted.
+// Of many that are found those behind the limit are given up first: by a sample where at most half are needed.
 #[test]
 fn a_limit_gives_the_first_of_all(rt: HostRuntime) {
     expect_first_of_all(&rt, &BY_ID);

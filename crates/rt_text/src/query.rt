@@ -43,7 +43,7 @@ pub enum QueryFault {
     UnknownVerb,
     /// No region has that name.
     UnknownRegion,
-    /// The line ends where a word is wanted.
+    /// The line ends where a word is expected.
     MissingWord,
     /// The word is no number.
     NotNumber,

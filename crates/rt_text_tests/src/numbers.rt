@@ -7,8 +7,8 @@ use std::process::Abort;
 type Row = (&'static str, Result<i128, NumberFault>);
 
 fn expect_numbers(rt: &impl Abort, rows: &[Row], least: i128, most: i128) {
-    for (text, wanted) in rows {
-        expect_eq(rt, number(text.as_bytes(), least, most), *wanted);
+    for (text, expected) in rows {
+        expect_eq(rt, number(text.as_bytes(), least, most), *expected);
     }
 }
 

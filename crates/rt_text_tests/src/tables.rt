@@ -273,8 +273,8 @@ fn faults_of_texts(rt: HostRuntime) {
 }
 
 fn expect_faults(rt: &impl Abort, alloc: Global, rows: &[(&str, TableFault)]) {
-    for (text, wanted) in rows {
-        expect_eq(rt, load(alloc, text, false, ROOM).err(), Some(*wanted));
+    for (text, expected) in rows {
+        expect_eq(rt, load(alloc, text, false, ROOM).err(), Some(*expected));
     }
 }
 
@@ -291,11 +291,15 @@ static OUT_OF_RANGE: [(&str, u8); 6] = [
 #[test]
 fn past_the_ends_of_the_ranges(rt: HostRuntime) {
     for (text, field) in &OUT_OF_RANGE {
-        let wanted = TableFault::OutOfRange {
+        let expected = TableFault::OutOfRange {
             number: 1,
             field: *field,
         };
-        expect_eq(&rt, load(rt.alloc(), text, false, ROOM).err(), Some(wanted));
+        expect_eq(
+            &rt,
+            load(rt.alloc(), text, false, ROOM).err(),
+            Some(expected),
+        );
     }
 }
 
@@ -370,11 +374,11 @@ static HEADER_AND_NUMBER_FAULTS: [(&str, bool, u32, TableFault); 9] = [
 
 #[test]
 fn faults_after_headers_and_of_most_entries(rt: HostRuntime) {
-    for (text, header, max, wanted) in &HEADER_AND_NUMBER_FAULTS {
+    for (text, header, max, expected) in &HEADER_AND_NUMBER_FAULTS {
         expect_eq(
             &rt,
             load(rt.alloc(), text, *header, *max).err(),
-            Some(*wanted),
+            Some(*expected),
         );
     }
 }
@@ -533,12 +537,12 @@ static BROKEN: [(&str, u32, TableFault); 8] = [
 
 #[test]
 fn failing_readers(rt: HostRuntime) {
-    for (text, max, wanted) in &BROKEN {
+    for (text, max, expected) in &BROKEN {
         let reader = Broken {
             text: text.as_bytes(),
             at: 0,
         };
         let loaded = read_table(rt.alloc(), reader, false, (*max).min(ROOM));
-        expect_eq(&rt, loaded.err(), Some(*wanted));
+        expect_eq(&rt, loaded.err(), Some(*expected));
     }
 }

@@ -37,8 +37,8 @@ pub extern "C" fn rtfilter_engine_find(
     ensures untouched { result ≡ NO_MEMORY → (progress.new ≡ progress.old)
         × (ends.new ≡ ends.old) × (ids.new ≡ ids.old) × (scores.new ≡ scores.old) }
     ensures worked { result ≢ NO_MEMORY → Opens session.old.held session.new.held (λ tree.
-        let wanted = skip + length ids.old + 1 in
-        opened_by_finds tree vertices.now wanted (take (progress.new.done + 1) queries.now)) }
+        let needed = skip + length ids.old + 1 in
+        opened_by_finds tree vertices.now needed (take (progress.new.done + 1) queries.now)) }
     ensures made { IsReady session.old.held → result ≢ NO_MEMORY }
     ensures same { HoldsAsked session.old.held session.new.held }
     ensures codes { (result ≡ OK) ⊎ (result ≡ FULL) ⊎ (result ≡ BAD_QUERY) ⊎ (result ≡ NO_MEMORY) }

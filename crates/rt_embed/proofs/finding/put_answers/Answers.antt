@@ -1,7 +1,7 @@
 use Rattle.std.proofs.Common.{◌≡◌, ◌+◌, ◌-◌, List, Some, arith, length, rules}
 use Rattle.std.proofs.lemmas.List.{length-drop}
 use Rattle.rt_search.specs.{Answers.{Answer, answers}, Work.{opened_by_search}}
-use Rattle.rt_embed.specs.Puts.{wanted_from}
+use Rattle.rt_embed.specs.Puts.{needed_from}
 use Rattle.rt_embed.proofs.LimitLemmas.{opened_cut, opened_either}
 use Rattle.rt_embed.proofs.finding.put_answers.Goals as goal
 
@@ -20,7 +20,7 @@ returns-clause-worked g c =
     let opened : rest.result.0.opened ≡ opened_by_search meaning t limit =
     opened_either rest.result.2 rest.result.0.opened (opened_by_search meaning t limit) (opened_by_search meaning t (Some given))
     (search rules) (search rules)
-    (λ cut. opened_cut t meaning limit (wanted_from from (length c.args.ids.now)) given c.requires.within
+    (λ cut. opened_cut t meaning limit (needed_from from (length c.args.ids.now)) given c.requires.within
     (omega (arith, c.requires.place, passed.ensures.given, c.start-search.ensures.given, left, to_come, (rest.ensures.put.cut cut).0, (rest.ensures.put.cut cut).1))
     (omega (arith, c.requires.place, to_come, (rest.ensures.put.cut cut).0, (rest.ensures.put.cut cut).1))) in
     search rules

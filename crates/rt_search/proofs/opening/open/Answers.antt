@@ -26,7 +26,7 @@ pub returns-then-scores_nodes-clause-state : goal.returns-then-scores_nodes-clau
 returns-then-scores_nodes-clause-state g c to_come out =
     let law = g.met.G.Geometry.lawful c.args.counted.now.geometry in
     let joined = c.open_node.ensures.children in
-    rw (c.open_node.ensures.asked, joined.wanted) ((go_on law c.args.tree.now (search rules) out).next _ joined.items)
+    rw (c.open_node.ensures.asked, joined.needed) ((go_on law c.args.tree.now (search rules) out).next _ joined.items)
 
 -- ---- all under it
 
@@ -52,10 +52,10 @@ returns g c =
     let joined = entries_join_all c.args.queue.now c.walk_under.new.visitor _ e.taken in
     let some = (walk_on law c.args.tree.now unscored c.requires.state.1).some in
     record {
-      state = λ to_come out. rw (e.opened, e.asked, joined.wanted)
+      state = λ to_come out. rw (e.opened, e.asked, joined.needed)
           ((walk_on law c.args.tree.now unscored out).next _ joined.items);
       more = omega (arith, e.opened);
-      wanted = joined.wanted;
+      needed = joined.needed;
       capacity = joined.capacity;
       geometry = e.geometry;
     }

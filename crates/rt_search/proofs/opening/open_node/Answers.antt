@@ -47,10 +47,10 @@ loop-i-preserved g c =
     c.new-number.ensures c.node-whole.ensures.value c.info_under-info.ensures in
     let inv = c.loop-i.invariant in
     let e = rw inv.geometry at c.check.ensures in
-    let h = rw (e.verdict, inv.children.wanted) at c.put_node.ensures in
-    let items = enough_node c.args.queue.now.wanted _ _ _ _ _ inv.children.items (rw k.at at (rw k.info_is at h.items)) in
+    let h = rw (e.verdict, inv.children.needed) at c.put_node.ensures in
+    let items = enough_node c.args.queue.now.needed _ _ _ _ _ inv.children.items (rw k.at at (rw k.info_is at h.items)) in
     record {
-      children = record { items = rw add-one items; wanted = h.wanted; capacity = h.capacity ∙ inv.children.capacity };
+      children = record { items = rw add-one items; needed = h.needed; capacity = h.capacity ∙ inv.children.capacity };
       geometry = e.geometry;
       asked = omega arith;
     }

@@ -45,7 +45,7 @@ returns-in_err-answer-clause-step g c so_far more going =
     let giving = going.giving queued in
     let e = c.pull.ensures in
     let none : c.from_residual.result ≡ None = search rules in
-    rw none (end going more queued (grind arith) e.capacity c.in_err-answer.ensures.wanted
+    rw none (end going more queued (grind arith) e.capacity c.in_err-answer.ensures.needed
     (c.in_err-answer.ensures.step _ giving.state))
 
 pub returns-clause-step : goal.returns-clause-step
@@ -53,5 +53,5 @@ returns-clause-step g c so_far more going =
     let same = going.same_room in
     let giving = going.giving (search rules) in
     let e = c.pull.ensures in
-    give going more (search rules) (grind arith) e.capacity c.in_ok-answer.ensures.wanted
+    give going more (search rules) (grind arith) e.capacity c.in_ok-answer.ensures.needed
     (c.in_ok-answer.ensures.step _ giving.state)

@@ -30,7 +30,7 @@ returns-clause-going g c geometry =
     record {
       same_room = grind arith;
       giving = λ h. started (g.G.Geometry.meaning geometry) c.args.tree.now put.sound c.args.limit
-          c.put_root.new.queue.capacity c.put_root.new.queue.wanted c.put_root.new.queue.items room
-          (rw put.root.wanted cleared.wanted) (rw put.root.wanted put.root.items);
+          c.put_root.new.queue.capacity c.put_root.new.queue.needed c.put_root.new.queue.items room
+          (rw put.root.needed cleared.needed) (rw put.root.needed put.root.items);
       gathering = λ h. absurd (grind arith);
     }

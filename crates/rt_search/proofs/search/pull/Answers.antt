@@ -1,5 +1,5 @@
 use Rattle.std.proofs.Common.{◌∙◌, ap, arith}
-use Rattle.rt_search.specs.{Kept.{node_or, taken_entry}, Limits.{wanted_after}}
+use Rattle.rt_search.specs.{Kept.{node_or, taken_entry}, Limits.{needed_after}}
 use Rattle.rt_search.proofs.UnderWay.{ended, node_out, opened_upto, still_more}
 use Rattle.rt_search.proofs.search.pull.Goals as goal
 
@@ -8,10 +8,10 @@ open-requires g c =
     let v = c.loop-node.invariant in
     let e = c.take-node.ensures in
     let law = g.met.G.Geometry.lawful c.args.counted.now.geometry in
-    let out = node_out law c.args.tree.now c.take-node.result c.in-Some.node v.wanted c.requires.more c.in-Some.is
+    let out = node_out law c.args.tree.now c.take-node.result c.in-Some.node v.needed c.requires.more c.in-Some.is
     e.taken (v.state _ c.requires.state.1) in
-    let same = e.wanted
-    ∙ ap (λ o. wanted_after (node_or o (taken_entry c.take-node.result.1)) c.loop-node.queue.wanted) c.in-Some.is in
+    let same = e.needed
+    ∙ ap (λ o. needed_after (node_or o (taken_entry c.take-node.result.1)) c.loop-node.queue.needed) c.in-Some.is in
     rw v.geometry (record {
       capacity = rw (e.capacity, v.capacity) c.requires.capacity;
       state = (c.requires.state.0, rw same out);
@@ -22,12 +22,12 @@ loop-node-smaller g c =
     let v = c.loop-node.invariant in
     let law = g.met.G.Geometry.lawful c.args.counted.now.geometry in
     let t = c.args.tree.now in
-    let out = node_out law t c.take-node.result c.in-Some.node v.wanted c.requires.more c.in-Some.is
+    let out = node_out law t c.take-node.result c.in-Some.node v.needed c.requires.more c.in-Some.is
     c.take-node.ensures.taken (v.state _ c.requires.state.1) in
     let o = rw v.geometry at c.«open».ensures in
     let more = o.more in
-    let same = c.take-node.ensures.wanted
-    ∙ ap (λ o. wanted_after (node_or o (taken_entry c.take-node.result.1)) c.loop-node.queue.wanted) c.in-Some.is in
+    let same = c.take-node.ensures.needed
+    ∙ ap (λ o. needed_after (node_or o (taken_entry c.take-node.result.1)) c.loop-node.queue.needed) c.in-Some.is in
     let all = opened_upto law t (o.state c.requires.state.0 (rw same out)) in
     omega arith
 
@@ -37,14 +37,14 @@ loop-node-preserved g c =
     let e = c.take-node.ensures in
     let law = g.met.G.Geometry.lawful c.args.counted.now.geometry in
     let o = rw v.geometry at c.«open».ensures in
-    let same = e.wanted
-    ∙ ap (λ o. wanted_after (node_or o (taken_entry c.take-node.result.1)) c.loop-node.queue.wanted) c.in-Some.is in
+    let same = e.needed
+    ∙ ap (λ o. needed_after (node_or o (taken_entry c.take-node.result.1)) c.loop-node.queue.needed) c.in-Some.is in
     record {
       state = λ to_come u.
-          let out = node_out law c.args.tree.now c.take-node.result c.in-Some.node v.wanted c.requires.more c.in-Some.is
+          let out = node_out law c.args.tree.now c.take-node.result c.in-Some.node v.needed c.requires.more c.in-Some.is
           e.taken (v.state to_come u) in
           o.state to_come (rw same out);
-      wanted = o.wanted ∙ same ∙ v.wanted;
+      needed = o.needed ∙ same ∙ v.needed;
       capacity = o.capacity ∙ e.capacity ∙ v.capacity;
       geometry = o.geometry;
     }
@@ -54,4 +54,4 @@ returns-in_default-clause-step g c = λ to_come u.
     let v = c.loop-node.invariant in
     let t = rw c.in_default.is at c.take-node.ensures in
     ended (g.met.G.Geometry.lawful c.args.counted.now.geometry) c.args.tree.now c.take-node.result.1
-    c.take-node.new.self.items (still_more _ _ v.wanted c.requires.more) t.taken t.wanted (v.state to_come u)
+    c.take-node.new.self.items (still_more _ _ v.needed c.requires.more) t.taken t.needed (v.state to_come u)

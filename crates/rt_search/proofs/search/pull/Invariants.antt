@@ -7,9 +7,9 @@ invariant-loop-node g l =
     let meaning = g.G.Geometry.meaning l.initial.counted.geometry in
     record {
       state : (to_come : List Answer) → IsUnderWay meaning l.tree l.initial.opened l.initial.counted.asked
-          l.initial.queue.wanted to_come l.initial.queue.items
-          → IsUnderWay meaning l.tree l.opened l.counted.asked l.queue.wanted to_come l.queue.items;
-      wanted : l.queue.wanted ≡ l.initial.queue.wanted;
+          l.initial.queue.needed to_come l.initial.queue.items
+          → IsUnderWay meaning l.tree l.opened l.counted.asked l.queue.needed to_come l.queue.items;
+      needed : l.queue.needed ≡ l.initial.queue.needed;
       capacity : l.queue.capacity ≡ l.initial.queue.capacity;
       geometry : l.counted.geometry ≡ l.initial.counted.geometry;
     }

@@ -24,7 +24,7 @@ invariant_of-self-2 c = grind (arith, length-queued, length-put, item_order)
 
 pub returns : goal.returns
 returns c =
-    let w = c.self.inside.entries.wanted in
+    let w = c.self.inside.entries.needed in
     let nodes = in_order node_item (keys_in c.self.inside.nodes) in
     let old = c.self.inside.entries.items in
     let new = c.put-2.new.self.items in
@@ -32,4 +32,4 @@ returns c =
     let here : IsEnough w new (put item_cmp x old) = grind (arith, to_z-of_z, w64) in
     let items = enough_joined w x c.self.inside.wide.items (put_all item_cmp nodes old) (put_all item_cmp nodes new)
     (enough_joined w x nodes old new here) in
-    rw (c.if-not-is_accepted.false, ← c.self.view_is) (_, (record { items = items; wanted = c.put-2.ensures.wanted; capacity = refl }, refl))
+    rw (c.if-not-is_accepted.false, ← c.self.view_is) (_, (record { items = items; needed = c.put-2.ensures.needed; capacity = refl }, refl))
