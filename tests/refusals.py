@@ -77,14 +77,14 @@ NOT_WRITTEN = b"rtfilter: cannot write answers\n"
 TESTS = {
     "rt_tree_tests": [
         "table::a_refused_push_changes_nothing",
-        "table::refused_entries_at_once_are_told",
-        "tree::a_refused_packing_is_told",
+        "table::refused_entries_at_once_are_reported",
+        "tree::a_refused_packing_is_reported",
     ],
-    "rt_search_tests": ["searches::a_refused_frontier_is_told"],
-    "rt_command_tests": ["memory::a_refused_name_is_told", "memory::refused_settings_are_told"],
+    "rt_search_tests": ["searches::a_refused_frontier_is_reported"],
+    "rt_command_tests": ["memory::a_refused_name_is_reported", "memory::refused_settings_are_reported"],
 }
 # What they say of a refused growth: of the call, and of what was made before it.
-TOLD, BEFOREHAND = b"told as refused", b"refused beforehand"
+TOLD, BEFOREHAND = b"reported as refused", b"refused beforehand"
 
 # What is refused, with which error, and how often.
 Refusal = collections.namedtuple("Refusal", ["call", "error", "many"])

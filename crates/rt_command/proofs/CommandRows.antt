@@ -63,13 +63,13 @@ row_help_last : fault_of filter_app (line (codes "--fanout" ∷ codes "65" ∷ c
 unfolding clap_on_literals filter_app
 row_help_last = refl
 
--- ---- how refusals are told
+-- ---- how refusals are reported
 
-row_help_told : arg_fault_of kind.DisplayHelp ≡ fault.Help
-row_help_told = refl
+row_help_reported : arg_fault_of kind.DisplayHelp ≡ fault.Help
+row_help_reported = refl
 
-row_validation_told : arg_fault_of kind.ValueValidation ≡ fault.Usage
-row_validation_told = refl
+row_validation_reported : arg_fault_of kind.ValueValidation ≡ fault.Usage
+row_validation_reported = refl
 
-row_memory_told : arg_fault_of kind.OutOfMemory ≡ fault.Memory
-row_memory_told = refl
+row_memory_reported : arg_fault_of kind.OutOfMemory ≡ fault.Memory
+row_memory_reported = refl

@@ -74,7 +74,7 @@ invocation_of words = invocation_in (matches_of filter_app words)
 
 -- ---- refusals
 
--- how a kind of clap's errors is told
+-- the fault for a kind of clap's errors
 abbrev pub arg_fault_of : ErrorKind → ArgFault
 arg_fault_of kind.DisplayHelp = fault.Help
 arg_fault_of kind.OutOfMemory = fault.Memory

@@ -1,11 +1,11 @@
-//! Refused memory. Where an allocator refuses one growth, as tests/refusals.py has it, these tell so; else they pass.
+//! Refused memory. Where an allocator refuses one growth, as tests/refusals.py has it, these report it; else they pass.
 
 use rt_command::{ArgFault, Invocation, Name, settings_of};
 use std::alloc::{AllocError, Global};
 use std::test::Fail;
 
 #[test]
-fn a_refused_name_is_told(rt: HostRuntime) -> Result<(), Fail> {
+fn a_refused_name_is_reported(rt: HostRuntime) -> Result<(), Fail> {
     for text in [
         "",
         "boxes.csv",
@@ -13,7 +13,7 @@ fn a_refused_name_is_told(rt: HostRuntime) -> Result<(), Fail> {
     ] {
         let Ok(name) = Name::new(rt.alloc(), text) else {
             assert!(rt; Name::new(rt.alloc(), text).is_ok());
-            return Err(Fail::new("told as refused"));
+            return Err(Fail::new("reported as refused"));
         };
         assert_eq!(rt; name.text(), text);
     }
@@ -57,10 +57,10 @@ fn names(alloc: Global, words: &[&str]) -> Result<Vec<Name>, AllocError> {
 
 // Whether an answer is the expected one.
 fn is_expected(
-    told: &Result<Invocation, ArgFault>,
+    actual: &Result<Invocation, ArgFault>,
     expected: Result<(u8, Option<&str>), ArgFault>,
 ) -> bool {
-    match (told, expected) {
+    match (actual, expected) {
         (Ok(invocation), Ok((fanout, queries))) => {
             let named = match &invocation.queries {
                 Some(name) => Some(name.text()),
@@ -76,17 +76,17 @@ fn is_expected(
 }
 
 #[test]
-fn refused_settings_are_told(rt: HostRuntime) -> Result<(), Fail> {
+fn refused_settings_are_reported(rt: HostRuntime) -> Result<(), Fail> {
     for (words, expected) in ASKED {
         let Ok(names) = names(rt.alloc(), words) else {
             return Err(Fail::new("refused beforehand"));
         };
-        let told = settings_of(rt.alloc(), names.as_slice());
-        if let Err(ArgFault::Memory) = &told {
+        let actual = settings_of(rt.alloc(), names.as_slice());
+        if let Err(ArgFault::Memory) = &actual {
             assert!(rt; is_expected(&settings_of(rt.alloc(), names.as_slice()), expected));
-            return Err(Fail::new("told as refused"));
+            return Err(Fail::new("reported as refused"));
         }
-        assert!(rt; is_expected(&told, expected));
+        assert!(rt; is_expected(&actual, expected));
     }
     Ok(())
 }

@@ -13,7 +13,7 @@ abbrev pub Pushes : {E : Type 0} → Option (List ℕ) → Option (List ℕ) →
 Pushes old new pushed piece =
     MatchResult pushed (λ n. Appends old new (take n piece)) (λ _. Keeps old new)
 
--- so many pulls were made, where their number is still told
+-- so many pulls were made, where their number is still known
 abbrev pub PulledTimes : (times : ℕ) → (old new : Option ℕ) → Type 0
 PulledTimes times old new =
     IfSome new (λ now. (before : ℕ) × (old ≡ Some before) × (now ≡ before + times))

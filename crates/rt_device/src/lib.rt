@@ -1,9 +1,9 @@
 //! Where bytes come from and where they go.
 //!
 //! A [`Source`] gives bytes in pieces, a [`Sink`] takes them in pieces, and each call may fail. Contracts see
-//! the bytes that are to come or that are written, where a device tells them, and how many calls failed
+//! the bytes that are to come or that are written, where a device reports them, and how many calls failed
 //! (`specs/Devices.antt`). [`ReadSource`] and [`WriteSink`] are readers and writers of std, [`BufferedSink`] is its
-//! buffered writer; [`SliceSource`] and [`SliceSink`] are memory, and fail where they are told to.
+//! buffered writer; [`SliceSource`] and [`SliceSink`] are memory, and fail at a call that is chosen beforehand.
 #![tactic(auto)]
 
 mod buffered_sink;

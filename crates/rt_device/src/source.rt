@@ -9,13 +9,13 @@ pub struct ReadFault;
 
 /// Bytes that come in pieces, from something that may fail.
 pub trait Source {
-    // The bytes to come, where they are told.
+    // The bytes to come, where they are known.
     ghost coming: { Self → Option (List ℕ) };
 
     // How many pulls failed.
     ghost failed: { Self → ℕ };
 
-    // How many pulls were made, where that is told. A source that doesn't count them leaves this out.
+    // How many pulls were made, where that is known. A source that doesn't count them leaves this out.
     ghost pulled: { Self → Option ℕ } = { λ _. None };
 
     /// Puts the next bytes at the front of the room, and returns how many: 0 only where none are to come.

@@ -1,4 +1,4 @@
-//! Readers and writers that fail once and work afterwards: each failure is told and counted, and none is tried
+//! Readers and writers that fail once and work afterwards: each failure is reported and counted, and none is tried
 //! again behind the caller's back.
 
 use crate::expect::expect_eq;
@@ -57,7 +57,7 @@ impl Write for FailsFirst {
 }
 
 #[test]
-fn a_failed_read_is_told_once(rt: HostRuntime) {
+fn a_failed_read_is_reported_once(rt: HostRuntime) {
     let mut source = ReadSource::new(INTERRUPTED);
     expect_eq(&rt, source.failures(), 0);
     expect_eq(&rt, source.pull(&mut [0; 4]), Err(ReadFault));
@@ -67,7 +67,7 @@ fn a_failed_read_is_told_once(rt: HostRuntime) {
 }
 
 #[test]
-fn a_failed_write_is_told_once(rt: HostRuntime) {
+fn a_failed_write_is_reported_once(rt: HostRuntime) {
     let mut sink = WriteSink::new(INTERRUPTED);
     expect_eq(&rt, sink.push(b"ab"), Err(WriteFault));
     expect_eq(&rt, sink.failures(), 1);
@@ -77,7 +77,7 @@ fn a_failed_write_is_told_once(rt: HostRuntime) {
 }
 
 #[test]
-fn a_failed_flush_is_told_once(rt: HostRuntime) {
+fn a_failed_flush_is_reported_once(rt: HostRuntime) {
     let mut sink = WriteSink::new(INTERRUPTED);
     expect_eq(&rt, sink.flush(), Err(WriteFault));
     expect_eq(&rt, sink.failures(), 1);

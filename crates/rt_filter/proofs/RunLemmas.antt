@@ -8,7 +8,7 @@ use Rattle.rt_text.specs.{Steps.{◌>>=◌}, Tables.{table_of}, declared.tables.
 use Rattle.rt_tree.specs.{Packed.{Packed}, Packing.{pack_of}}
 use Rattle.rt_filter.specs.Endings.{ConsumedAtLeast, Ends, EndsWith, Happened, Serves, ServesWith, SourceTells}
 use Rattle.rt_text.specs.{RunFaults.{status_of}, declared.run_faults.RunFault.{RunFault}}
-use Rattle.rt_filter.specs.{Endings.{told_as}, Replies.{Loaded}}
+use Rattle.rt_filter.specs.{Endings.{run_fault_of}, Replies.{Loaded}}
 use Rattle.rt_filter.specs.{Replies.{tree_of}, Runs.{loaded_of, run_of, run_over}, Stages.{HasLoaded, Stops}}
 use Rattle.rt_filter.specs.{Stages.{is_of_load}, declared.filter.Outcome.{Outcome}}
 use Rattle.rt_filter.specs.declared.serving.{ServeFault.{ServeFault}, Served.{Served}}
@@ -62,12 +62,12 @@ module _ (choices : Choices) (table : List ℕ) (coming written : Option (List �
 module _ (choices : Choices) (table : List ℕ) (coming coming' written written' : Option (List ℕ)) where
   served_row : (loaded : Loaded) (what : Happened) (bad : Bool) (cause : Option ServeFault) (status : ℕ)
       → loaded_of choices table ≡ Ok loaded → ServesWith loaded what bad cause → (cause ≡ None → status ≡ (if bad then 1 else 0))
-      → EndsWith (loaded_of choices table) what (record { status = status; fault = option_map told_as cause }) (option_map told_as cause)
+      → EndsWith (loaded_of choices table) what (record { status = status; fault = option_map run_fault_of cause }) (option_map run_fault_of cause)
   served_row loaded what bad cause status same w is = grind (arith, same, w, is)
 
   pub ends_served : (tree : Packed) (served : Served) → HasLoaded choices table tree
       → ((loaded : Loaded) → tree ≡ tree_of loaded → Serves loaded (known coming written) (known coming' written') served)
-      → (outcome : Outcome) → outcome.fault ≡ option_map told_as served.fault → (served.fault ≡ None → outcome.status ≡ (if served.bad then 1 else 0))
+      → (outcome : Outcome) → outcome.fault ≡ option_map run_fault_of served.fault → (served.fault ≡ None → outcome.status ≡ (if served.bad then 1 else 0))
       → Ends choices table (known coming written) (known coming' written') outcome
   ends_served tree served h s outcome fault status = search (rules, served_row)
 

@@ -43,7 +43,7 @@ pub pulled_within : (times turns : ℕ) (old mid new : Option ℕ) → PulledTim
     → (more : ℕ) × PulledTimes more old new × (more ≤ turns)
 pulled_within times turns old mid new h k left = (times + 1, pulled_more times old mid new h k, omega arith)
 
--- what rests, where it is told
+-- what rests, where it is known
 abbrev pub rest_of : Option (List ℕ) → List ℕ
 rest_of coming = unwrap_or coming []
 

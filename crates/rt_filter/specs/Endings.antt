@@ -33,7 +33,7 @@ pub record Known : Type 0 where
 abbrev pub SourceTells : (coming now : Option (List ℕ)) → Happened → Type 0
 SourceTells coming now what = Consumes coming now what.consumed × IfSome now (λ rest. rest ≡ what.rest)
 
--- at least so many bytes were consumed of those that were to come, where these are told
+-- at least so many bytes were consumed of those that were to come, where these are known
 abbrev pub ConsumedAtLeast : (count : ℕ) → (old new : Option (List ℕ)) → Type 0
 ConsumedAtLeast count old new = (consumed : List ℕ) × Consumes old new consumed × (count ≤ length consumed)
 
@@ -68,10 +68,10 @@ Serves loaded old now served =
 
 -- ---- a whole run
 
--- what a run tells of a fault of serving
-abbrev pub told_as : ServeFault → RunFault
-told_as serve.Read = Read
-told_as serve.Write = Write
+-- the fault of a run whose serving ends with this fault
+abbrev pub run_fault_of : ServeFault → RunFault
+run_fault_of serve.Read = Read
+run_fault_of serve.Write = Write
 
 -- the table is sound, and serving the queries ended with this fault
 abbrev pub EndsServing : Result Loaded TableFault → Happened → ServeFault → Type 0

@@ -46,7 +46,7 @@ abbrev pub printed_for : ArgFault → List ℕ
 printed_for words.Help = usage_line
 printed_for other = []
 
--- a run with these settings, over a table's bytes where these are told, ended so
+-- a run with these settings, over a table's bytes where these are known, ended so
 pub record HasRun (choices : Choices) (table : Option (List ℕ)) (old : Known) (written : Option (List ℕ)) (outcome : Outcome)
     : Type 0 where
   pub ends : (all : List ℕ) → table ≡ Some all

@@ -3,7 +3,7 @@
 ghost use Rattle.std.specs.Prelude.{◌≡◌, ◌+◌, ◌-◌, ◌<◌, ◌≤◌, ◌^◌, ◌⊎◌, ◌≢◌, ◌++◌, ℕ, List, Some, None, IfOk, IfErr};
 ghost use Rattle.std.specs.{Io.Buffered.{writer_buffer, writer_contents}, Option.{option_map_or}, Prelude.{IsTrue, MatchOption, [], length, if◌then◌else◌}};
 ghost use Rattle.rt_text.specs.{RunFaults.{status_of}, declared.run_faults.RunFault.{RunFault}};
-ghost use Rattle.rt_filter.specs.{Accounts.{Accounts, connection_of}, Endings.{Ends, ConsumedAtLeast, told_as}};
+ghost use Rattle.rt_filter.specs.{Accounts.{Accounts, connection_of}, Endings.{Ends, ConsumedAtLeast, run_fault_of}};
 ghost use Rattle.rt_filter.specs.Runs.{run_of};
 ghost use Rattle.rt_filter.specs.Stages.{HasLoaded, Stops, is_of_load};
 
@@ -153,7 +153,7 @@ impl Outcome {
 }
 
 impl From<ServeFault> for RunFault {
-    ghost from_gives = { λ fault result. result ≡ told_as fault };
+    ghost from_gives = { λ fault result. result ≡ run_fault_of fault };
 
     fn from(fault: ServeFault) -> RunFault {
         match fault {

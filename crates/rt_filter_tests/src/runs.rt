@@ -107,7 +107,7 @@ static COSTS: [(&str, &str); 16] = [
 ];
 
 #[test]
-fn costs_are_told(rt: HostRuntime) {
+fn costs_are_reported(rt: HostRuntime) {
     let two = Given { fanout: 2, ..PLAIN };
     two.expect_replies(&rt, BOXES, &COSTS);
 }

@@ -53,7 +53,7 @@ fn words_are_run_over_the_readers_and_writers_of_std(rt: HostRuntime) -> Result<
 }
 
 #[test]
-fn words_that_ask_for_help_or_are_wrong_are_told(rt: HostRuntime) -> Result<(), Fail> {
+fn words_that_ask_for_help_or_are_wrong_are_reported(rt: HostRuntime) -> Result<(), Fail> {
     for (words, fault) in [
         (["rtfilter", "-h"], ArgFault::Help),
         (["rtfilter", "--fanout"], ArgFault::Usage),

@@ -74,7 +74,7 @@ to_the_left_is m n x y p q e f =
 at_least_offset : (o v : ℤ) → int_le o v ≡ int_le (pos 0) (v -ℤ o)
 at_least_offset o v = grind (arith, ints)
 
--- how far a point lies to the left, told by offsets from the origin
+-- how far a point lies to the left, by offsets from the origin
 cross-by_offset : (edge : Edge) (x y : ℤ)
     → ((edge.to.x -ℤ edge.from.x) *ℤ y -ℤ (edge.to.y -ℤ edge.from.y) *ℤ x)
     -ℤ ((edge.to.x -ℤ edge.from.x) *ℤ edge.from.y -ℤ (edge.to.y -ℤ edge.from.y) *ℤ edge.from.x)
@@ -216,7 +216,7 @@ state_of : (vertices : List Point) (i : Info) (met held overlapping lies_inside 
     → state_by (not (overlapping && met)) (lies_inside && held) ≡ region_state (Polygon vertices) i
 state_of vertices i met held overlapping lies_inside e f o l = rw (e, f, l, o) refl
 
--- the same told by the half-planes
+-- the same by the half-planes
 pub state_is : (vertices : List Point) (i : Info) (half_planes : List HalfPlane) (whole : Rect)
     (overlapping lies_inside : Bool)
     → IsRect i.bounds → half_planes ≡ map half_plane_of (edges_from_last vertices)

@@ -1,4 +1,4 @@
--- Half-planes of which every three share a point share one (Helly 1923). A point is told by whole numbers (x, y, w), w
+-- Half-planes of which every three share a point share one (Helly 1923). A point is given by whole numbers (x, y, w), w
 -- above 0: it stands at (x / w, y / w).
 use Rattle.std.specs.Prelude.{◌*ℤ◌, neg_ℤ, unsigned_abs}
 use Rattle.std.specs.List.{AllByRecursion}

@@ -54,7 +54,7 @@ polygon_of-star = refl
 polygon_of-twice : polygon_of (at 0 0 ∷ at 30 0 ∷ at 0 30 ∷ at 0 0 ∷ at 30 0 ∷ at 0 30 ∷ []) ≡ Err NotConvex
 polygon_of-twice = refl
 
--- the count is told first
+-- the count is reported first
 polygon_of-two_points : polygon_of (at 0 0 ∷ at 5 5 ∷ []) ≡ Err Count
 polygon_of-two_points = refl
 

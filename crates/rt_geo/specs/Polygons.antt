@@ -67,7 +67,7 @@ polygon_of vertices =
     else (if is_strictly_convex (reverse vertices) then Ok (reverse vertices) else Err NotConvex))
 
 -- the same vertex by vertex, so that no count of vertices has to be believed: a polygon is the list as it stands or its
--- reverse, and strictly convex. Too few or too many vertices are told as that, and a list of 3 to 16 is refused only
+-- reverse, and strictly convex. Too few or too many vertices are reported as that, and a list of 3 to 16 is refused only
 -- where it is strictly convex neither way round
 abbrev pub IsPolygonOf : List Point → Result (List Point) PolygonFault → Type 0
 IsPolygonOf points (Ok vertices) =

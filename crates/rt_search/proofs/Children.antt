@@ -165,8 +165,8 @@ height_suc t number s level = (inner_at t (height_at t number) (node_at t number
 pub honest_child : (meaning : Meaning) (whole : Extent) (info : Info) (v : Verdict)
     → IsBelow meaning whole v → info.parent_within ≡ v.within → IsPart (extent_of info) whole
     → IsHonest meaning.accepts info
-honest_child meaning whole info v below told part = λ full.
-    AllAccepted-part meaning.accepts (extent_of info) whole part (below.full (sym told ∙ full))
+honest_child meaning whole info v below reported part = λ full.
+    AllAccepted-part meaning.accepts (extent_of info) whole part (below.full (sym reported ∙ full))
 
 module _ (meaning : Meaning) (t : Packed) (sound : IsSound t) (v : Verdict) (small : v.score < 2 ^ 128) where
   pub entry_question : (n : Node) (e : Entry) (i : ℕ) → IsBelow meaning (extent_of_node n) v → IsLeafAt t n i e

@@ -16,8 +16,8 @@ use Rattle.rt_search.specs.declared.item.Place.TheVariants as place
 pub kept_not : (w : Within) → is_kept w ≡ false → w ≡ Not
 kept_not w h = grind arith
 
-pub verdict_told : (v : Verdict) (k : ℕ) → is_kept v.within ≡ true → verdict_on v.score (waiting_node k v.within) ≡ v
-verdict_told v k h = grind arith
+pub verdict_kept : (v : Verdict) (k : ℕ) → is_kept v.within ≡ true → verdict_on v.score (waiting_node k v.within) ≡ v
+verdict_kept v k h = grind arith
 
 -- ---- the answers under the children of a higher node
 
@@ -93,7 +93,7 @@ module _ {meaning : Meaning} (law : IsLawful meaning) (t : Packed) where
           let rest = nodes_sound xs i (omega arith) a in
           cond_both (is_kept w.within) _ (join_nodes meaning t v (node_at t number) i xs) (AllSound t meaning)
           (λ h. AllSound-put meaning t (item_at w.score (place.Node (waiting_node m w.within))) _
-          (rw (verdict_told w m h) (record {
+          (rw (verdict_kept w m h) (record {
             inside = k.number;
             tree = k.tree;
             low = omega (arith, k.lower, opened.low);

@@ -124,7 +124,7 @@ module _ (has : Bool) (opens : Verdict → Bool) (verdict : ℕ → Verdict) whe
     pub low : from ≤ place
     pub high : place < to
     pub opened : opens (verdict place) ≡ true
-    pub told : v ≡ verdict place
+    pub reported : v ≡ verdict place
     pub closed : (i : ℕ) → from ≤ i → i < place → opens (verdict i) ≡ false
     pub rest : HasWaiting has opens verdict (place + 1) to new
 
@@ -145,7 +145,7 @@ module _ (has : Bool) (opens : Verdict → Bool) (verdict : ℕ → Verdict) whe
           low = low;
           high = high;
           opened = opened;
-          told = out.verdict ∙ waits.verdicts place high opened;
+          reported = out.verdict ∙ waits.verdicts place high opened;
           closed = λ i le lt. sym (waits.places i le (omega (arith, high))) ∙ out.before i lt;
           rest = record {
             places = λ i le lt. out.others i (λ e. absurd (omega arith)) ∙ waits.places i (omega (arith, low)) lt;

@@ -148,9 +148,9 @@ module _ {meaning : Meaning} (law : IsLawful meaning) (t : Packed) where
       (out : Option ScoredNode × Option Answer) (m : ScoredNode) → needed ≡ limit → limit ≢ Some 0
       → out.0 ≡ Some m → IsTakenOut (taken_item out) items xs → IsUnderWay meaning t opened asked needed to_come items
       → IsOut meaning t opened asked needed to_come (item_at m.score (place.Node m.node)) xs
-  node_out {opened} {asked} {needed} {limit} {items = items} {xs} out m is_limit some told took u =
+  node_out {opened} {asked} {needed} {limit} {items = items} {xs} out m is_limit some reported took u =
       let more = still_more limit needed is_limit some in
-      let is = (subst (λ o. IsTakenOut (node_or o (taken_entry out.1)) items xs) told took).0 in
+      let is = (subst (λ o. IsTakenOut (node_or o (taken_entry out.1)) items xs) reported took).0 in
       let x = item_at m.score (place.Node m.node) in
       let k = first_kept needed x xs u.all more (subst (λ l. IsEnough needed l u.all) is u.enough) in
       let up = subst IsRising k.1.0 u.rising in

@@ -167,8 +167,8 @@ module _ {meaning : Meaning} (law : IsLawful meaning) where
           let extent = extent_of_node (node_at t k) in
           let info = info_of_node t v (node_at t k) in
           rw is.info_is (record {
-            none = λ told. among_none meaning extent (law.faithful.pruning info asks is.child.level told) _ inside;
-            all = λ told. all_among meaning t extent (law.faithful.fullness info asks is.child.level told) _ inside
+            none = λ reported. among_none meaning extent (law.faithful.pruning info asks is.child.level reported) _ inside;
+            all = λ reported. all_among meaning t extent (law.faithful.fullness info asks is.child.level reported) _ inside
                 ∙ sym (size_under t (height_at t k) (node_at t k) is.child.tree);
           })
 
@@ -306,14 +306,14 @@ module _ {meaning : Meaning} (law : IsLawful meaning) where
             let child_is = child t number opened.tree high place lt in
             let work : (cost : Node → ℕ) → work_upto opens cost (place + 1)
             ≡ work_upto opens cost from + work_under opens cost meaning t w k =
-            λ cost. rw (at, next.told) (work_more opens cost place lt ∙ omega (
+            λ cost. rw (at, next.reported) (work_more opens cost place lt ∙ omega (
               arith,
               skips cost,
               at_child opens cost meaning t
                   (verdict place) (n.first + place) next.opened,
             )) in
             record {
-              node = openable lt at next.told;
+              node = openable lt at next.reported;
               room_is =
                   let some = closed_few (suc place) n.count (omega (arith, lt)) (omega arith) in
                   let none_more : closed_upto (suc place) ≡ closed_upto place = rw next.opened (append-nil (closed_upto place)) in

@@ -8,7 +8,7 @@ use Rattle.rt_search.specs.{Answers.{Answer}, Items.{item_at, item_cmp}, Joining
 use Rattle.rt_search.specs.{Progress.{held, work_at, work_left}, Remaining.{height_at, waiting_node}}
 use Rattle.rt_search.specs.{Walking.{work_of_child}, Work.{info_of_node, is_kept, reached}, declared.item.Item.{Item}}
 use Rattle.rt_search.proofs.{Answering.{take_more_at}, Children.{all_children, child, height_suc, inner_at}}
-use Rattle.rt_search.proofs.{Joined.{verdict_told}, OrderedLists.{length-put, sum_by-put}, Orders.{item_order}}
+use Rattle.rt_search.proofs.{Joined.{verdict_kept}, OrderedLists.{length-put, sum_by-put}, Orders.{item_order}}
 use Rattle.rt_search.specs.declared.item.Place.TheVariants as place
 
 -- an item that joins where a test holds, in a sum and in the length
@@ -66,7 +66,7 @@ module _ (meaning : Meaning) (t : Packed) (v : Verdict) where
       brought : (m : ℕ) → let w = meaning.verdict (info_of_node t v (node_at t m)) in
           cond (is_kept w.within) (work_at opens cost meaning t w.score (place.Node (waiting_node m w.within))) 0
           ≡ brings (height_at t m) (node_at t m)
-      brought m = grind (arith, verdict_told)
+      brought m = grind (arith, verdict_kept)
 
       work_upto : (xs : List Item) (i : ℕ) → i ≤ (node_at t number).count
           → work_left opens cost meaning t (join_nodes meaning t v (node_at t number) i xs)

@@ -245,12 +245,12 @@ fn add_search<G: Geometry>(
     assert!(rt; tree.len() <= frontier.capacity(), "there is room");
     let mut search = Search::start(tree, frontier, Counted::new(geometry), limit);
     add_answers(&mut search, limit.unwrap_or(u64::MAX), digest);
-    let told = search.opened();
+    let reported = search.opened();
     let (frontier, counted) = search.finish();
     digest.add(counted.asked());
     assert!(rt; tree.len() <= frontier.capacity(), "there is room");
     let (opened, frontier) = cost(tree, frontier, Counted::new(geometry), limit);
-    expect_eq(rt, opened, told);
+    expect_eq(rt, opened, reported);
     frontier
 }
 
@@ -280,9 +280,9 @@ fn add_geometry<G: Geometry>(
     }
     assert!(rt; tree.len() <= frontier.capacity(), "there is room");
     let mut counted = Counted::new(geometry);
-    let told = count(tree, &mut frontier, &mut counted);
-    digest.add(told.accepted);
-    digest.add(told.opened);
+    let result = count(tree, &mut frontier, &mut counted);
+    digest.add(result.accepted);
+    digest.add(result.opened);
     digest.add(counted.asked());
     frontier
 }

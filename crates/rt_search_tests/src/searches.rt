@@ -108,7 +108,7 @@ fn answer_at(answers: &[(i64, u128)], place: usize) -> Option<(i64, u128)> {
     answers.get(place).copied()
 }
 
-// The nodes that a search for so many answers opens, told without the answers.
+// The nodes that a search for so many answers opens, without the answers.
 fn expect_cost<G: Geometry>(
     rt: &(impl Abort + AllocGlobal),
     boxes: &[(i64, Sides)],
@@ -338,7 +338,7 @@ static IN_CIRCLE: Want<'static> = Want {
 
 // No query line asks so: one that has a circle and no order asks for the nearest first.
 #[test]
-fn circles_are_told_by_id_too(rt: HostRuntime) {
+fn circles_are_ordered_by_id_too(rt: HostRuntime) {
     let circle = Guided {
         shape: Region::Circle(Circle {
             centre: Point::default(),
@@ -429,7 +429,7 @@ static NEAREST_OF_NESTED: Want<'static> = Want {
 };
 
 #[test]
-fn nested_boxes_are_told_apart(rt: HostRuntime) {
+fn nested_boxes_are_distinguished(rt: HostRuntime) {
     let boxes = nested(true);
     let geometry = near(100, 100);
     expect_search(&rt, &boxes, &geometry, Some(1), &NEAREST_OF_NESTED);
@@ -742,13 +742,13 @@ fn left_by_a_search(rt: &(impl Abort + AllocGlobal), tree: &Tree) -> Frontier
 
 static CAPACITIES: [u32; 4] = [0, 1, 5, 100_000];
 
-// Where an allocator refuses one growth, as tests/refusals.py has it, this tells so, and else it passes.
+// Where an allocator refuses one growth, as tests/refusals.py has it, this reports it, and else it passes.
 #[test]
-fn a_refused_frontier_is_told(rt: HostRuntime) -> Result<(), Fail> {
+fn a_refused_frontier_is_reported(rt: HostRuntime) -> Result<(), Fail> {
     for capacity in &CAPACITIES {
         let Ok(frontier) = Frontier::new(rt.alloc(), *capacity) else {
             assert!(rt; Frontier::new(rt.alloc(), *capacity).is_ok());
-            return Err(Fail::new("told as refused"));
+            return Err(Fail::new("reported as refused"));
         };
         expect_eq(&rt, (frontier.capacity(), frontier.len()), (*capacity, 0));
     }

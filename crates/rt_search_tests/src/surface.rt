@@ -88,7 +88,7 @@ static BY_DISTANCE: [(Option<u64>, &[u64]); 5] = [
 ];
 
 #[test]
-fn what_was_opened_is_told_after_each_answer(rt: HostRuntime) {
+fn what_was_opened_is_reported_after_each_answer(rt: HostRuntime) {
     let (by_id, by_area) = (
         Guided {
             shape: All,

@@ -80,7 +80,7 @@ table_after-refused : (header : Bool) (max number : ℕ) (so_far : List Entry) (
 unfolding entries_from
 table_after-refused header max number so_far f fields more judges refused = rw (judges, refused) refl
 
--- the fault of a step may be told
+-- the fault of a step may be reported
 own : {A : Type 0} (f : TableFault) (step : Result A TableFault) → step ≡ Err f → IsFaultOf f step
 own fault.Read step e = tt
 own fault.Memory step e = tt

@@ -28,7 +28,7 @@ in_range low high (Some n) = if int_le low n && int_le n high then Ok n else Err
 abbrev pub number_in : (low high : ℤ) → List ℕ → Result ℤ NumberFault
 number_in low high text = in_range low high (number_text text)
 
--- the fault of a number, told in other words: `none` where there is none, `outside` where it is out of its range
+-- the fault of a number, in other words: `none` where there is none, `outside` where it is out of its range
 abbrev pub fault_as : {F : Type 0} → (none outside : F) → NumberFault → F
 fault_as none outside fault.NotNumber = none
 fault_as none outside fault.OutOfRange = outside

@@ -46,7 +46,7 @@ is_next key (word ∷ more) = bytes_eq word key
 
 -- ---- numbers, each a word
 
--- a number of a range; one out of it is told as `outside`
+-- a number of a range; one out of it is reported as `outside`
 abbrev pub number : (outside : QueryFault) → (low high : ℤ) → List ℕ → Result ℤ QueryFault
 number outside low high word = map_fault (fault_as fault.NotNumber outside) (number_in low high word)
 
@@ -96,7 +96,7 @@ points (suc n) words = do
   others ← points n first.1
   Ok (first.0 ∷ others.0, others.1)
 
--- what a list of vertices that gives no polygon is told as
+-- the fault of a list of vertices that gives no polygon
 abbrev pub polygon_fault : PolygonFault → QueryFault
 polygon_fault shape.Count = fault.VertexCount
 polygon_fault shape.NotConvex = fault.NotConvex

@@ -14,4 +14,4 @@ map_value made_of step = result_map_both made_of (λ e. e) step
 
 -- the same value, or the fault in other words
 abbrev pub map_fault : {A E F : Type 0} → (E → F) → Result A E → Result A F
-map_fault told_as step = result_map_both (λ a. a) told_as step
+map_fault fault_of step = result_map_both (λ a. a) fault_of step

@@ -1,4 +1,4 @@
-//! Query lines, and what each asks or is told. The expectations were worked out by hand.
+//! Query lines, and the query or the fault of each. The expectations were worked out by hand.
 
 use crate::expect::expect_eq;
 use rt_geo::{

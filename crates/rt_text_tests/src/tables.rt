@@ -1,4 +1,4 @@
-//! The texts of tables, and what each is or is told.
+//! The texts of tables, and the table or the fault of each.
 
 use crate::expect::expect_eq;
 use rt_geo::Bounds;
@@ -124,7 +124,7 @@ static FAULTS: [(&str, TableFault); 22] = [
             axis: Axis::X,
         },
     ),
-    // A repeated id is told before what is wrong with a later record, and after what is wrong with an earlier one.
+    // A repeated id is reported before what is wrong with a later record, and after what is wrong with an earlier one.
     (
         "7,0,0,0,0\n7,0,0,0,0\n8,x,0,0,0\n",
         TableFault::Repeated { number: 2 },
@@ -327,7 +327,7 @@ static HEADER_AND_NUMBER_FAULTS: [(&str, bool, u32, TableFault); 9] = [
         ROOM,
         TableFault::Repeated { number: 4 },
     ),
-    // The record after the most entries is told before what is wrong with it.
+    // The record after the most entries is reported before what is wrong with it.
     (
         "1,0,0,0,0\n1,2",
         false,

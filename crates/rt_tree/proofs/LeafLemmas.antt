@@ -22,9 +22,9 @@ pub length-entries_of : (entries : List LeafEntry) (layers : List ℕ) → lengt
 length-entries_of = length-paired with_layer without_layer layer_of (λ _ _. refl) (λ _ _. refl)
 
 -- the layer of an entry that is there
-pub layers_told : (entries : List Entry) (place : ℕ) (layers : Layers)
+pub layers_of_entry : (entries : List Entry) (place : ℕ) (layers : Layers)
     → layers ≡ only (get_or (map layer_of entries) place 0)
     → IfSome (slice_get entries place) (λ entry. layers ≡ (extent_of_entry entry).layers)
-layers_told [] place layers is = tt
-layers_told (entry ∷ entries) zero layers is = is
-layers_told (entry ∷ entries) (suc place) layers is = layers_told entries place layers is
+layers_of_entry [] place layers is = tt
+layers_of_entry (entry ∷ entries) zero layers is = is
+layers_of_entry (entry ∷ entries) (suc place) layers is = layers_of_entry entries place layers is

@@ -53,7 +53,7 @@ pub sizes_from-step : (fanout size : ℕ) → 2 ≤ fanout → 1 < size
 sizes_from-step fanout size several more = let above : nat_le size 1 ≡ false = grind (arith, nat_tests) in
     rw above (ap (λ l. size ∷ l) (sizes_above-step fanout size several (omega arith)))
 
--- ---- a loop that has told the levels up to one of so many
+-- ---- a loop that has returned the levels up to one of so many
 
 -- it tells one more, which isn't the last one
 pub course_more : (levels : List ℕ) (fanout size : ℕ) (whole : List ℕ) → 2 ≤ fanout → 0 < size

@@ -1,4 +1,4 @@
--- What the sizes of levels are, told without the recursion that computes them.
+-- What the sizes of levels are, without the recursion that computes them.
 use Rattle.std.proofs.Common.{◌≡◌, ◌<◌, ◌≤◌, ◌+◌, ◌↔◌, ℕ, zero, suc, List, [], ◌∷◌, length, slice_get, Some, refl}
 use Rattle.std.proofs.{Common.{sym, ap, subst, arith, inl, inr}, lemmas.{Bool.{cases_lt}, Option.{none-some}}}
 use Rattle.std.specs.Int.{div_ceil}
@@ -6,7 +6,7 @@ use Rattle.rt_tree.specs.Levels.{level_sizes, sizes_above}
 use Rattle.rt_tree.proofs.LevelLemmas.{div_ceil-halves, div_ceil-positive, sizes_above-step, sizes_from}
 use Rattle.rt_tree.proofs.LevelLemmas.{sizes_from-step}
 
--- a level of one is the last, and the last has one; each is told by the one below it
+-- a level of one is the last, and the last has one; each follows from the one below it
 record AreLevels (fanout : ℕ) (sizes : List ℕ) : Type 0 where
   last : (level size : ℕ) → slice_get sizes level ≡ Some size → (size ≡ 1) ↔ (suc level ≡ length sizes)
   above : (level below above : ℕ) → slice_get sizes level ≡ Some below → slice_get sizes (suc level) ≡ Some above
@@ -32,7 +32,7 @@ module _ (fanout size : ℕ) (rest : List ℕ) (levels : AreLevels fanout rest)
   last_more more some zero s e =
       let same : size ≡ s = cc in ((λ one. absurd (omega arith)), (λ top. absurd (omega arith)))
   last_more more some (suc level) s e =
-      let told = levels.last level s e in ((λ one. ap suc (told.0 one)), (λ top. told.1 (omega arith)))
+      let known = levels.last level s e in ((λ one. ap suc (known.0 one)), (λ top. known.1 (omega arith)))
 
 are_levels : (most fanout size : ℕ) → 2 ≤ fanout → 0 < size → size ≤ most → AreLevels fanout (sizes_from fanout size)
 are_levels zero fanout size several some few = absurd (omega arith)
@@ -73,5 +73,5 @@ pub level_last : (len fanout level size count : ℕ) → 2 ≤ fanout → 0 < le
 level_last len fanout zero size count several some e is = absurd (omega arith)
 level_last zero fanout (suc level) size count several some e is = absurd (none-some size e)
 level_last (suc n) fanout (suc level) size count several some e is =
-    let told = (above_entries fanout (suc n) several (omega arith)).last level size e in
-    ((λ one. let last = told.0 one in omega arith), (λ last. told.1 (omega arith)))
+    let known = (above_entries fanout (suc n) several (omega arith)).last level size e in
+    ((λ one. let last = known.0 one in omega arith), (λ last. known.1 (omega arith)))

@@ -109,7 +109,7 @@ nothing_packed = refl
 square_roots : map ceil_sqrt (0 ∷ 1 ∷ 2 ∷ 4 ∷ 5 ∷ 9 ∷ 10 ∷ []) ≡ 0 ∷ 1 ∷ 2 ∷ 2 ∷ 3 ∷ 3 ∷ 4 ∷ []
 square_roots = refl
 
--- ---- ids that come again: the first entry whose id an earlier one has is told
+-- ---- ids that come again: the first entry whose id an earlier one has is reported
 
 no_repeat : first_repeat (point 3 ∷ point 1 ∷ point 2 ∷ []) ≡ None
 no_repeat = refl

@@ -11,7 +11,7 @@ use Rattle.rt_tree.proofs.{ChunkLemmas.{chunks-front, chunks-nil}, Soundness.{su
 use Rattle.rt_tree.proofs.TileLemmas.{groups-chunks, groups-moved}
 use Rattle.rt_geo.specs.{Boxes.{Rect, hull}, Laws.{Extent}, Layers.{no_layers, union}, declared.layers.Layers.{Layers}}
 use Rattle.rt_tree.specs.{Packed.{union_of}, Packing.{chunks, groups, joined, node_over, nodes_over}, declared.tree.Node.{Node}}
-use Rattle.rt_tree.specs.SortKeys.{ArePackable, box_of, place_of, told, with_child}
+use Rattle.rt_tree.specs.SortKeys.{ArePackable, box_of, place_of, items_at, with_child}
 
 -- ---- the items that keys tell
 
@@ -20,35 +20,35 @@ module _ {X : Type 0} (items : List X) where
   abbrev pub Tells : ℕ → Type 0
   Tells key = place_of key < length items
 
-  pub told-append : (keys more : List ℕ) → told items (keys ++ more) ≡ told items keys ++ told items more
-  told-append keys more = filter_map-append (λ key. slice_get items (place_of key)) keys more
+  pub items_at-append : (keys more : List ℕ) → items_at items (keys ++ more) ≡ items_at items keys ++ items_at items more
+  items_at-append keys more = filter_map-append (λ key. slice_get items (place_of key)) keys more
 
   -- as many as keys
-  pub length-told : (keys : List ℕ) → All Tells keys → length (told items keys) ≡ length keys
-  length-told [] tell = refl
-  length-told (key ∷ keys) tell = elim (slice_get_cases items (place_of key)).1 [
-    | inl h ↦ rw h.2 (ap (λ n. suc n) (length-told keys (λ k d h. tell (suc k) d (omega arith))))
+  pub length-items_at : (keys : List ℕ) → All Tells keys → length (items_at items keys) ≡ length keys
+  length-items_at [] tell = refl
+  length-items_at (key ∷ keys) tell = elim (slice_get_cases items (place_of key)).1 [
+    | inl h ↦ rw h.2 (ap (λ n. suc n) (length-items_at keys (λ k d h. tell (suc k) d (omega arith))))
     | inr h ↦ absurd (omega (arith, h.0, tell 0 0 (omega arith)))
   ]
 
   -- with one key more
-  pub told_next : (keys : List ℕ) (i : ℕ) (x : X) → i < length keys → slice_get items (place_of (get_or keys i 0)) ≡ Some x
-      → told items (take (i + 1) keys) ≡ told items (take i keys) ++ x ∷ []
-  told_next keys i x there is = ap (told items) (take_more keys i 0 there) ∙ told-append (take i keys) (get_or keys i 0 ∷ [])
+  pub items_at_next : (keys : List ℕ) (i : ℕ) (x : X) → i < length keys → slice_get items (place_of (get_or keys i 0)) ≡ Some x
+      → items_at items (take (i + 1) keys) ≡ items_at items (take i keys) ++ x ∷ []
+  items_at_next keys i x there is = ap (items_at items) (take_more keys i 0 there) ∙ items_at-append (take i keys) (get_or keys i 0 ∷ [])
       ∙ rw is refl
 
   -- what the first of them weigh with the next
-  pub told-weight : (size : X → ℕ) (keys : List ℕ) (i : ℕ) (x : X) → i < length keys
+  pub items_at-weight : (size : X → ℕ) (keys : List ℕ) (i : ℕ) (x : X) → i < length keys
       → slice_get items (place_of (get_or keys i 0)) ≡ Some x
-      → sum_by size (told items (take i keys)) + size x ≤ sum_by size (told items keys)
-  told-weight size keys i x there is =
+      → sum_by size (items_at items (take i keys)) + size x ≤ sum_by size (items_at items keys)
+  items_at-weight size keys i x there is =
       let front = take (i + 1) keys in
-      let whole : sum_by size (told items keys) ≡ sum_by size (told items front) + sum_by size
-      (told items (drop (i + 1) keys)) = ap (λ ks. sum_by size (told items ks)) (sym (take-append-drop (i + 1) keys))
-      ∙ ap (sum_by size) (told-append front (drop (i + 1) keys))
-      ∙ sum_by-append size (told items front) (told items (drop (i + 1) keys)) in
-      let next : sum_by size (told items front) ≡ sum_by size (told items (take i keys)) + size x =
-      ap (sum_by size) (told_next keys i x there is) ∙ sum_by_push size (told items (take i keys)) x in
+      let whole : sum_by size (items_at items keys) ≡ sum_by size (items_at items front) + sum_by size
+      (items_at items (drop (i + 1) keys)) = ap (λ ks. sum_by size (items_at items ks)) (sym (take-append-drop (i + 1) keys))
+      ∙ ap (sum_by size) (items_at-append front (drop (i + 1) keys))
+      ∙ sum_by-append size (items_at items front) (items_at items (drop (i + 1) keys)) in
+      let next : sum_by size (items_at items front) ≡ sum_by size (items_at items (take i keys)) + size x =
+      ap (sum_by size) (items_at_next keys i x there is) ∙ sum_by_push size (items_at items (take i keys)) x in
       omega arith
 
 -- ---- the node over the items of a tile
@@ -75,25 +75,25 @@ module _ {X : Type 0} (extent : X → Extent) (size : X → ℕ) where
   -- what the first of some items weigh with the next
   pub next_fits : (items : List X) (keys : List ℕ) (i : ℕ) (x : X) (start node : Node) → i < length keys
       → slice_get items (place_of (get_or keys i 0)) ≡ Some x → start.size ≡ 0
-      → node ≡ with_children start (told items (take i keys)) → node.size + size x ≤ sum_by size (told items keys)
+      → node ≡ with_children start (items_at items (take i keys)) → node.size + size x ≤ sum_by size (items_at items keys)
   next_fits items keys i x start node there at empty is = omega (
     arith,
-    told-weight items size keys i x there at,
+    items_at-weight items size keys i x there at,
     ap (λ n. n.size) is,
-    ap (λ n. n.size) (with_children-is start (told items (take i keys))),
-    sum_by_from size start.size (told items (take i keys)),
+    ap (λ n. n.size) (with_children-is start (items_at items (take i keys))),
+    sum_by_from size start.size (items_at items (take i keys)),
   )
 
   -- one more of them is packed, and is a child of the node
   pub tile_more : (items : List X) (keys : List ℕ) (i : ℕ) (x : X) (start node : Node) (before packed : List X)
       → i < length keys → slice_get items (place_of (get_or keys i 0)) ≡ Some x
-      → node ≡ with_children start (told items (take i keys)) → packed ≡ before ++ told items (take i keys)
-      → (with_child extent size node x ≡ with_children start (told items (take (i + 1) keys)))
-      × (packed ++ x ∷ [] ≡ before ++ told items (take (i + 1) keys))
+      → node ≡ with_children start (items_at items (take i keys)) → packed ≡ before ++ items_at items (take i keys)
+      → (with_child extent size node x ≡ with_children start (items_at items (take (i + 1) keys)))
+      × (packed ++ x ∷ [] ≡ before ++ items_at items (take (i + 1) keys))
   tile_more items keys i x start node before packed there at is packed_is =
-      rw (told_next items keys i x there at, is, packed_is) (
-        sym (fold_push (with_child extent size) start (told items (take i keys)) x),
-        append_assoc before (told items (take i keys)) (x ∷ []),
+      rw (items_at_next items keys i x there at, is, packed_is) (
+        sym (fold_push (with_child extent size) start (items_at items (take i keys)) x),
+        append_assoc before (items_at items (take i keys)) (x ∷ []),
       )
 
   -- a node without children, with those of a tile
@@ -101,10 +101,10 @@ module _ {X : Type 0} (extent : X → Extent) (size : X → ℕ) where
       → 0 < length keys → length keys ≤ i → slice_get items (place_of (get_or keys 0 0)) ≡ Some x
       → empty ≡ no_layers → box ≡ box_of extent x → first ≡ number
       → with_children (record { layers = empty; bounds = box; first = first; size = 0; count = 0; level = level })
-      (told items (take i keys)) ≡ node_over extent size level number (told items keys)
+      (items_at items (take i keys)) ≡ node_over extent size level number (items_at items keys)
   over_tile items [] i level first number x empty box some all at none around is = absurd (omega arith)
   over_tile items (key ∷ keys) i level first number x empty box some all at none around is =
-      let others = told items keys in
+      let others = items_at items keys in
       let over : Rect → ℕ → Node = λ b n. record {
         layers = union_of (map (λ y. (extent y).layers) (x ∷ others));
         bounds = fold hull b (map (λ y. (extent y).bounds) others);
@@ -139,15 +139,15 @@ module _ {X : Type 0} (items : List X) (extent : X → Extent) (size : X → ℕ
   pub record IsLevelPart (all_packed : List X) (all_nodes : List Node) (packed : List X) (nodes : List Node)
       (later : List ℕ) : Type 0 where
     pub tell : All (Tells items) later
-    pub weight : sum_by size (told items later) < 2 ^ 32
+    pub weight : sum_by size (items_at items later) < 2 ^ 32
     pub room : length packed + length later < 2 ^ 32
-    pub packed_are : packed ++ told items later ≡ all_packed
-    pub nodes_are : nodes ++ nodes_over extent size level (length packed) (chunks fanout (told items later)) ≡ all_nodes
+    pub packed_are : packed ++ items_at items later ≡ all_packed
+    pub nodes_are : nodes ++ nodes_over extent size level (length packed) (chunks fanout (items_at items later)) ≡ all_nodes
 
   -- before the first tile
   pub level_first : (box : X → Rect) (has_layers : X → Type 0) (order : ℕ → ℕ → Ordering) (in_order packed : List X)
       (keys : List ℕ) → ArePackable box has_layers size order in_order items → 2 ≤ fanout
-      → told items keys ≡ joined (groups box fanout in_order) → All (Tells items) keys
+      → items_at items keys ≡ joined (groups box fanout in_order) → All (Tells items) keys
       → length packed + length items < 2 ^ 32
       → IsLevelPart (packed ++ joined (groups box fanout in_order)) (nodes_over extent size level (length packed)
       (groups box fanout in_order)) packed [] keys
@@ -157,7 +157,7 @@ module _ {X : Type 0} (items : List X) (extent : X → Extent) (size : X → ℕ
       record {
         tell = tell;
         weight = omega (arith, ap (sum_by size) are, sum_by-IsPermutation size items ordered moved, packable.weight);
-        room = omega (arith, ap length are, length-told items keys tell, length_permutation items ordered moved, room);
+        room = omega (arith, ap length are, length-items_at items keys tell, length_permutation items ordered moved, room);
         packed_are = ap (λ l. packed ++ l) are;
         nodes_are = ap (nodes_over extent size level (length packed)) (ap (chunks fanout) are
             ∙ sym (groups-chunks box in_order fanout (omega arith)));
@@ -166,35 +166,35 @@ module _ {X : Type 0} (items : List X) (extent : X → Extent) (size : X → ℕ
   -- what is asked of the next tile: what its keys tell, and what that weighs
   pub next_tile : (all_packed : List X) (all_nodes : List Node) (packed : List X) (nodes : List Node)
       (keys tile later : List ℕ) → IsLevelPart all_packed all_nodes packed nodes keys → keys ≡ tile ++ later
-      → All (Tells items) tile × (sum_by size (told items tile) < 2 ^ 32)
+      → All (Tells items) tile × (sum_by size (items_at items tile) < 2 ^ 32)
   next_tile all_packed all_nodes packed nodes keys tile later part is = (
     All-front (Tells items) tile later (subst (All (Tells items)) is part.tell),
     omega (
       arith,
       part.weight,
-      ap (λ ks. sum_by size (told items ks)) is,
-      ap (sum_by size) (told-append items tile later),
-      sum_by-append size (told items tile) (told items later),
+      ap (λ ks. sum_by size (items_at items ks)) is,
+      ap (sum_by size) (items_at-append items tile later),
+      sum_by-append size (items_at items tile) (items_at items later),
     ),
   )
 
   pub level_more : (all_packed : List X) (all_nodes : List Node) (packed packed' : List X) (nodes nodes' : List Node)
       (keys tile later : List ℕ) (node : Node) → 0 < fanout → IsLevelPart all_packed all_nodes packed nodes keys
       → keys ≡ tile ++ later → length tile ≡ min fanout (length keys) → 0 < length keys
-      → packed' ≡ packed ++ told items tile → node ≡ node_over extent size level (length packed) (told items tile)
+      → packed' ≡ packed ++ items_at items tile → node ≡ node_over extent size level (length packed) (items_at items tile)
       → nodes' ≡ nodes ++ node ∷ [] → IsLevelPart all_packed all_nodes packed' nodes' later
   level_more all_packed all_nodes packed packed' nodes nodes' keys tile later node some part is long there packed_is node_is
       nodes_is =
       let all = subst (All (Tells items)) is part.tell in
       let here = All-front (Tells items) tile later all in
       let behind = All-behind (Tells items) tile later all in
-      let group = told items tile in
-      let rest = told items later in
-      let whole : told items keys ≡ group ++ rest = ap (told items) is ∙ told-append items tile later in
-      let count = length-told items tile here in
+      let group = items_at items tile in
+      let rest = items_at items later in
+      let whole : items_at items keys ≡ group ++ rest = ap (items_at items) is ∙ items_at-append items tile later in
+      let count = length-items_at items tile here in
       let count_all : length (group ++ rest) ≡ length keys = ap length (sym whole)
-      ∙ length-told items keys part.tell in
-      let cut : chunks fanout (told items keys) ≡ group ∷ chunks fanout rest = ap (chunks fanout) whole
+      ∙ length-items_at items keys part.tell in
+      let cut : chunks fanout (items_at items keys) ≡ group ∷ chunks fanout rest = ap (chunks fanout) whole
       ∙ chunks-front fanout group rest some (omega arith)
       (count ∙ long ∙ ap (min fanout) (sym count_all)) in
       let next : length packed' ≡ length packed + length group = ap length packed_is ∙ length-append packed group in

@@ -74,7 +74,7 @@ nodes_over extent size level first (group ∷ more) =
 -- ---- level by level
 
 -- the nodes of this level, in the order in which the level above it is cut, and then those of all levels above, up to
--- one that has a single node. They are numbered as they stand, from `first` on, and a node's first child is told by its
+-- one that has a single node. They are numbered as they stand, from `first` on, and a node's first child is given by its
 -- number. The fuel is no less than the number of levels
 abbrev pub nodes_from : (fuel fanout level first : ℕ) → List Node → List Node
 nodes_from zero fanout level first nodes = nodes

@@ -11,7 +11,7 @@ ghost use Rattle.rt_geo.specs.{Entries.{HasLayer}, Laws.{Extent, extent_of_entry
 ghost use Rattle.rt_tree.specs.{Entries.{most_entries}, Packed.{extent_of_node}, Packing.{ceil_sqrt, chunks, groups}};
 ghost use Rattle.rt_tree.specs.Packing.{joined, node_over, nodes_over, twice_middle_x, twice_middle_y};
 ghost use Rattle.rt_tree.specs.SortKeys.{ArePackable, box_of, by_rank_and_id, by_y, key_of, place_of};
-ghost use Rattle.rt_tree.specs.{SortKeys.{rank, rekeyed, sort_key, told, with_child}, Sorting.{sorted}};
+ghost use Rattle.rt_tree.specs.{SortKeys.{rank, rekeyed, sort_key, items_at, with_child}, Sorting.{sorted}};
 
 use crate::entries::Entries;
 use crate::nodes::Nodes;
@@ -221,7 +221,7 @@ fn arrange<T: Items>(keys: &mut [u64], items: &T, fanout: u8)
     requires several { 2 ≤ fanout }
     requires keys { keys.old
         ≡ map (key_of (box_of T.extent) twice_middle_x) (enumerate_from 0 (T.list items.now)) }
-    ensures told { told (T.list items.now) keys.new
+    ensures arranged { items_at (T.list items.now) keys.new
         ≡ joined (groups (box_of T.extent) fanout (T.in_order (T.list items.now))) }
     ensures places { All (λ key. place_of key < length (T.list items.now)) keys.new }
 {
@@ -295,12 +295,12 @@ fn pack_tile<T: Items>(
     requires few { length tile.now < 2 ^ 8 }
     requires places { All (λ key. place_of key < length (T.list items.now)) tile.now }
     requires layers { All T.has_layers (T.list items.now) }
-    requires weight { sum_by T.size (told (T.list items.now) tile.now) < 2 ^ 32 }
+    requires weight { sum_by T.size (items_at (T.list items.now) tile.now) < 2 ^ 32 }
     requires room { length (T.list packed.old) < 2 ^ 32 }
     ensures packed { OnOk result
-        (T.list packed.new ≡ T.list packed.old ++ told (T.list items.now) tile.now) }
+        (T.list packed.new ≡ T.list packed.old ++ items_at (T.list items.now) tile.now) }
     ensures node { IfOk result (λ node. node ≡ node_over T.extent T.size level
-        (length (T.list packed.old)) (told (T.list items.now) tile.now)) }
+        (length (T.list packed.old)) (items_at (T.list items.now) tile.now)) }
 {
     // (it begins with the first child's box, as there is none around nothing; the hull with that child leaves it so)
     let mut node = Node {

@@ -191,7 +191,7 @@ fn expect_ids_up_to(rt: &impl Abort, table: &Table, end: i64) {
     }
 }
 
-// Where an allocator refuses one growth, as tests/refusals.py has it, this tells so, and else it passes.
+// Where an allocator refuses one growth, as tests/refusals.py has it, this reports it, and else it passes.
 #[test]
 fn a_refused_push_changes_nothing(rt: HostRuntime) -> Result<(), Fail> {
     let mut table = Table::empty(rt.alloc());
@@ -208,28 +208,28 @@ fn a_refused_push_changes_nothing(rt: HostRuntime) -> Result<(), Fail> {
     }
     expect_eq(&rt, table.len(), 100);
     if is_refused {
-        return Err(Fail::new("told as refused"));
+        return Err(Fail::new("reported as refused"));
     }
     Ok(())
 }
 
 // The same of entries at once, in the order of their ids and in none.
 #[test]
-fn refused_entries_at_once_are_told(rt: HostRuntime) -> Result<(), Fail> {
+fn refused_entries_at_once_are_reported(rt: HostRuntime) -> Result<(), Fail> {
     for (ids, repeat) in &LOADED {
         let Some(made) = loaded(rt.alloc(), ids) else {
             return Err(Fail::new("refused beforehand"));
         };
-        let told = match made {
+        let actual = match made {
             Ok(_) => None,
             Err(EntriesFault::Repeated { place }) => Some(place),
             Err(EntriesFault::Memory) => {
                 let again = loaded(rt.alloc(), ids).expect(&rt, "there is memory again");
                 expect_eq(&rt, again.is_err(), (*repeat).is_some());
-                return Err(Fail::new("told as refused"));
+                return Err(Fail::new("reported as refused"));
             }
         };
-        expect_eq(&rt, told, *repeat);
+        expect_eq(&rt, actual, *repeat);
     }
     Ok(())
 }

@@ -270,9 +270,9 @@ fn expect_true_nodes(rt: &impl Abort, tree: &Tree, fanout: u8) {
     }
 }
 
-// Where an allocator refuses one growth, as tests/refusals.py has it, this tells so, and else it passes.
+// Where an allocator refuses one growth, as tests/refusals.py has it, this reports it, and else it passes.
 #[test]
-fn a_refused_packing_is_told(rt: HostRuntime) -> Result<(), Fail> {
+fn a_refused_packing_is_reported(rt: HostRuntime) -> Result<(), Fail> {
     for fanout in [2, 16] {
         let Some(table) = strewn(rt.alloc(), 100) else {
             return Err(Fail::new("refused beforehand"));
@@ -280,7 +280,7 @@ fn a_refused_packing_is_told(rt: HostRuntime) -> Result<(), Fail> {
         let Ok(tree) = packed(rt.alloc(), table, fanout) else {
             let table = strewn(rt.alloc(), 100).expect(&rt, "there is memory again");
             assert!(rt; packed(rt.alloc(), table, fanout).is_ok());
-            return Err(Fail::new("told as refused"));
+            return Err(Fail::new("reported as refused"));
         };
         expect_eq(&rt, tree.len(), 100);
     }

@@ -1,4 +1,4 @@
-//! Whole trees, each told by one number, over tables that a fixed recursion makes. `tests/packing.py` packs the same
+//! Whole trees, each reduced to one number, over tables that a fixed recursion makes. `tests/packing.py` packs the same
 //! tables by a reading of its own, and compares its numbers with these.
 
 use crate::layered::layered;
@@ -225,49 +225,47 @@ fn packed(alloc: Global, kind: Kind, fanout: u8, count: u32) -> Option<Tree> {
     Tree::pack(alloc, table, fanout.clamp(2, 64)).ok()
 }
 
-// One number for those told so far and one more.
-fn told(so_far: u64, number: i64) -> u64 {
+// One number for those so far and one more.
+fn with_number(so_far: u64, number: i64) -> u64 {
     so_far
         .wrapping_mul(6_364_136_223_846_793_005)
         .wrapping_add(number.cast_unsigned())
 }
 
-fn told_box(so_far: u64, bounds: &Bounds) -> u64 {
+fn with_box(so_far: u64, bounds: &Bounds) -> u64 {
     let sides = [
         bounds.min_x(),
         bounds.max_x(),
         bounds.min_y(),
         bounds.max_y(),
     ];
-    sides
-        .iter()
-        .fold(so_far, |so_far, side| told(so_far, i64::from(*side)))
+    sides.iter().fold(so_far, |so_far, side| with_number(so_far, i64::from(*side)))
 }
 
-fn told_node(so_far: u64, number: u32, node: &Node) -> u64 {
-    let so_far = told_box(told(so_far, i64::from(number)), &node.bounds);
-    let so_far = told(so_far, i64::from(node.level));
-    let so_far = told(so_far, i64::from(node.first));
-    let so_far = told(so_far, i64::from(node.count));
-    let so_far = told(so_far, i64::from(node.size));
-    told(so_far, node.layers.bits().cast_signed())
+fn with_node(so_far: u64, number: u32, node: &Node) -> u64 {
+    let so_far = with_box(with_number(so_far, i64::from(number)), &node.bounds);
+    let so_far = with_number(so_far, i64::from(node.level));
+    let so_far = with_number(so_far, i64::from(node.first));
+    let so_far = with_number(so_far, i64::from(node.count));
+    let so_far = with_number(so_far, i64::from(node.size));
+    with_number(so_far, node.layers.bits().cast_signed())
 }
 
 // The number of a whole tree: its entries, its nodes, and how many there are on each level.
-fn told_tree(tree: &Tree) -> u64 {
-    let mut all = told(0, i64::from(tree.len()));
+fn number_of(tree: &Tree) -> u64 {
+    let mut all = with_number(0, i64::from(tree.len()));
     for place in 0..tree.len() {
         let entry = tree.entry(place);
-        all = told_box(told(all, entry.id), &entry.bounds);
-        all = told(all, i64::from(entry.layer));
+        all = with_box(with_number(all, entry.id), &entry.bounds);
+        all = with_number(all, i64::from(entry.layer));
     }
-    all = told(all, i64::from(tree.node_len()));
+    all = with_number(all, i64::from(tree.node_len()));
     for number in 0..tree.node_len() {
-        all = told_node(all, number, &tree.node(NodeNo::new(number)));
+        all = with_node(all, number, &tree.node(NodeNo::new(number)));
     }
-    all = told(all, i64::from(tree.top()).wrapping_add(1));
+    all = with_number(all, i64::from(tree.top()).wrapping_add(1));
     for level in 0..=tree.top() {
-        all = told(all, i64::from(tree.level_len(level)));
+        all = with_number(all, i64::from(tree.level_len(level)));
     }
     all
 }
@@ -277,7 +275,7 @@ fn trees_are_those_of_another_reading(rt: HostRuntime) {
     for (kind, fanout, count, number) in &TREES {
         let tree = packed(rt.alloc(), *kind, *fanout, *count).expect(&rt, "the boxes are a table");
         assert_eq!(rt;
-            (*kind, *fanout, *count, told_tree(&tree)),
+            (*kind, *fanout, *count, number_of(&tree)),
             (*kind, *fanout, *count, *number)
         );
     }

@@ -10,9 +10,9 @@ use Rattle.rt_command.proofs.CommandLemmas.{filter_app-filled, filter_app-is_sim
 use Rattle.rt_command.proofs.invocation.parse.Goals as goal
 
 -- a kind of clap's as we tell it
-told : (kinds : Kinds) (e : Error) → HasKind kinds e → IsFaultAmong kinds (arg_fault_of (kind_of e))
-told kinds e (inl h) = inl (ap arg_fault_of h)
-told kinds e (inr h) = inr (kind_of e, h, refl)
+reported : (kinds : Kinds) (e : Error) → HasKind kinds e → IsFaultAmong kinds (arg_fault_of (kind_of e))
+reported kinds e (inl h) = inl (ap arg_fault_of h)
+reported kinds e (inr h) = inr (kind_of e, h, refl)
 
 -- what clap says of the command that it was given and of the words one by one, of our command and the words
 kinds_of : (a b : App) (words : List (List ℕ)) (e : Error) → a ≡ b → is_simple_and_free b ≡ true → (is_simple_and_free a ≡ true → HasKind (fault_of a (map (λ w. w) words)) e) → HasKind (fault_of b words) e
@@ -31,7 +31,7 @@ pub returns-in_err-try_get_matches_from-clause-faults : goal.returns-in_err-try_
 returns-in_err-try_get_matches_from-clause-faults c =
     let p = err_from_is_err_and c.from_residual-in_err-try_get_matches_from.result c.from_residual-in_err-try_get_matches_from.ensures.1 in
     let h = kinds_of (app_of c.in_ok-command.command) filter_app c.args.words.now c.in_err-try_get_matches_from.field-0.0 c.in_ok-command.ensures filter_app-simple c.in_err-try_get_matches_from.ensures.kinds in
-    rw (p.1, p.2) (told _ c.in_err-try_get_matches_from.field-0.0 h)
+    rw (p.1, p.2) (reported _ c.in_err-try_get_matches_from.field-0.0 h)
 
 pub returns-in_err-try_get_matches_from-clause-takes : goal.returns-in_err-try_get_matches_from-clause-takes
 returns-in_err-try_get_matches_from-clause-takes c =

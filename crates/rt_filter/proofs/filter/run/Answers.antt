@@ -1,14 +1,14 @@
 use Rattle.std.proofs.{Common.{◌≡◌, ◌∙◌, option_map, rules}, lemmas.Grind.{common_steps}}
-use Rattle.rt_filter.specs.Endings.{told_as}
+use Rattle.rt_filter.specs.Endings.{run_fault_of}
 use Rattle.rt_filter.proofs.RunLemmas.{ends_early, ends_served, ends_whole}
 use Rattle.rt_filter.proofs.filter.run.Goals as goal
 
 pub returns-in-Ok-clause-ending : goal.returns-in-Ok-clause-ending
 returns-in-Ok-clause-ending g c table is_table =
-    let told : c.map.result ≡ option_map told_as c.serve-served.result.fault = search rules in
+    let mapped : c.map.result ≡ option_map run_fault_of c.serve-served.result.fault = search rules in
     ends_served c.args.settings.now table (g.S.Source.coming c.args.source.now) (g.S.Source.coming c.serve-served.new.source)
     (g.K.Sink.written c.args.sink.now) (g.K.Sink.written c.serve-served.new.sink) c.in-Ok.tree c.serve-served.result (c.in-Ok.ensures.loaded table is_table)
-    c.serve-served.ensures.ending c.new.result (c.new.ensures.fault ∙ told) (search rules)
+    c.serve-served.ensures.ending c.new.result (c.new.ensures.fault ∙ mapped) (search rules)
 
 pub returns-in-Ok-clause-headline : goal.returns-in-Ok-clause-headline
 returns-in-Ok-clause-headline g c table queries before is_table is_queries is_before =

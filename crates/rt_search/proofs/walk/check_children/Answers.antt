@@ -65,7 +65,7 @@ loop-i-preserved-then-eq g c =
     let law = g.met.G.Geometry.lawful c.args.counted.now.geometry in
     let i = c.loop-i.invariant in
     let e = rw i.geometry at c.check-verdict.ensures in
-    let told = rw (k.info_is, k.at) at e.verdict in
+    let reported = rw (k.info_is, k.at) at e.verdict in
     let dropped : c.check-verdict.result.within ≡ Not = search rules in
     let closed = g.met.V.Visitor.drops c.check-verdict.result dropped in
     let empty = rw k.at at ((known law c.requires.sound (search rules) c.requires.node high k).none (rw e.verdict at dropped)) in
@@ -73,9 +73,9 @@ loop-i-preserved-then-eq g c =
     let found : ℕ → List Answer =
     answers_where (λ v. not (g.V.Visitor.opens v)) (g.G.Geometry.meaning c.args.counted.now.geometry) c.args.tree.now c.args.parent n in
     let more = closed_more law c.requires.sound (search rules) c.requires.node high g.V.Visitor.opens c.loop-i.i in
-    let same : found (c.loop-i.i + 1) ≡ found c.loop-i.i = sym more ∙ rw (rw told at closed, empty) (append-nil (found c.loop-i.i)) in
+    let same : found (c.loop-i.i + 1) ≡ found c.loop-i.i = sym more ∙ rw (rw reported at closed, empty) (append-nil (found c.loop-i.i)) in
     record {
-      waiting = one_dropped c.args.has_scores g.V.Visitor.opens _ told i.waiting dropped closed;
+      waiting = one_dropped c.args.has_scores g.V.Visitor.opens _ reported i.waiting dropped closed;
       taken = subst (λ l. HasTaken g.V.Collector.takes c.args.visitor.now l c.loop-i.visitor) (sym same) i.taken;
       geometry = e.geometry;
       asked = omega (arith, e.asked, i.asked);
@@ -92,8 +92,8 @@ loop-i-preserved g c =
     let law = g.met.G.Geometry.lawful c.args.counted.now.geometry in
     let i = c.loop-i.invariant in
     let e = rw i.geometry at c.check-verdict.ensures in
-    let told = rw (k.info_is, k.at) at e.verdict in
-    let answer = c.visit_node.ensures.opens ∙ ap g.V.Visitor.opens told in
+    let reported = rw (k.info_is, k.at) at e.verdict in
+    let answer = c.visit_node.ensures.opens ∙ ap g.V.Visitor.opens reported in
     let keeps = c.keep.ensures in
     let size = ap (λ n. n.size) k.is in
     let those = c.visit_node.ensures.taken (answers_under c.args.tree.now (g.G.Geometry.meaning c.args.counted.now.geometry)
@@ -104,10 +104,10 @@ loop-i-preserved g c =
       waiting = elim c.if-visit_node.branch [
         | then-visit_node w ↦
             let opened = sym c.visit_node.ensures.opens ∙ w.if-visit_node.true in
-            rw w.pending-is (one_waits c.args.has_scores g.V.Visitor.opens _ told i.waiting keeps
+            rw w.pending-is (one_waits c.args.has_scores g.V.Visitor.opens _ reported i.waiting keeps
             (λ not. absurd (grind (arith, g.met.V.Visitor.drops c.check-verdict.result not))) opened w.put.ensures)
         | else-visit_node w ↦
-            rw w.pending-is (one_closed c.args.has_scores g.V.Visitor.opens _ told i.waiting keeps
+            rw w.pending-is (one_closed c.args.has_scores g.V.Visitor.opens _ reported i.waiting keeps
             (sym c.visit_node.ensures.opens ∙ w.if-visit_node.false))
       ];
       taken = subst (λ l. HasTaken g.V.Collector.takes c.args.visitor.now l c.visit_node.new.self) more

@@ -6,8 +6,8 @@ use Rattle.rt_text.proofs.tables.table_of_entries.Goals as goal
 
 pub overflow_add-result : goal.overflow_add-result
 overflow_add-result c =
-    let told = rw c.in-Err-Repeated.field-0-is at c.in-Err-Repeated.ensures.fault in
-    let there = first_repeat-below c.args.entries c.in-Err-Repeated.place told in
+    let reported = rw c.in-Err-Repeated.field-0-is at c.in-Err-Repeated.ensures.fault in
+    let there = first_repeat-below c.args.entries c.in-Err-Repeated.place reported in
     let small = first_number-small c.args.header in
     let few : length c.args.entries ≤ most_entries = c.requires.most in
     omega (arith, there, small, few, c.first_number.ensures)

@@ -2,7 +2,7 @@ use Rattle.std.proofs.{Common.{◌≡◌, ◌<◌, ◌*◌, ◌∙◌, All, ap, 
 use Rattle.std.proofs.lemmas.List.FromFn.{length-enumerate_from}
 use Rattle.std.specs.{Int.{div_ceil}, List.{enumerate_from, flat_map}}
 use Rattle.rt_tree.specs.{Packing.{ceil_sqrt, chunks, twice_middle_x}, Sorting.{sorted}}
-use Rattle.rt_tree.specs.SortKeys.{box_of, by_y, key_of, keys_by_x, place_of, told}
+use Rattle.rt_tree.specs.SortKeys.{box_of, by_y, key_of, keys_by_x, place_of, items_at}
 use Rattle.rt_tree.proofs.{ChunkLemmas.{chunks-alike}, SortKeyLemmas.{keys_tell, sliced_tell}}
 use Rattle.rt_tree.proofs.packing.arrange.Goals as goal
 
@@ -28,7 +28,7 @@ returns g c =
     let size = λ (some : 0 < length (keys_by_x order box items)). c.slice_size.ensures.value (omega (arith, c.count.ensures))
     ∙ ap (λ n. ceil_sqrt (div_ceil n c.args.fanout) * c.args.fanout) c.count.ensures in
     record {
-      told = ap (told items) (sliced ∙ ap (flat_map each) (chunks-alike c.slice_size.result _ (keys_by_x order box items) size))
+      arranged = ap (items_at items) (sliced ∙ ap (flat_map each) (chunks-alike c.slice_size.result _ (keys_by_x order box items) size))
           ∙ c.requires.packable.arranged c.args.fanout (omega (arith, c.requires.several));
       places = subst (All (λ key. place_of key < length items)) (sym sliced)
           (sliced_tell box items c.requires.packable.few order c.slice_size.result);

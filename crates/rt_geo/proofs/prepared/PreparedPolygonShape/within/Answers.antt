@@ -12,12 +12,12 @@ state_by_half_planes-requires c =
 
 pub returns-clause-state : goal.returns-clause-state
 returns-clause-state c =
-    let told =
+    let known =
     state_is c.self.inside.vertices.items c.args.info.now c.deref.result.now c.self.inside.bounds
     c.overlaps-overlapping.result c.inside-lies_inside.result c.state_by_half_planes.ensures.valid
     (c.deref.ensures.0 ∙ c.self.invariant.half_planes) c.self.invariant.bounds c.overlaps-overlapping.ensures.value
     c.inside-lies_inside.ensures in
-    rw (← c.self.view_is) (c.state_by_half_planes.ensures.value ∙ told)
+    rw (← c.self.view_is) (c.state_by_half_planes.ensures.value ∙ known)
 
 pub returns-clause-apart : goal.returns-clause-apart
 returns-clause-apart c e =

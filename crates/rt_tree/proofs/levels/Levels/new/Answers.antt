@@ -47,6 +47,6 @@ returns-then-size-eq1-clause-above c level below above e f =
 pub returns-then-size-eq1-clause-last : goal.returns-then-size-eq1-clause-last
 returns-then-size-eq1-clause-last c level size e =
     let sizes = returns-then-size-eq1-clause-sizes c in
-    let told = level_last c.args.len c.args.fanout (level + 1) size (length c.push-in-loop-size.new.self) c.requires.several
+    let reported = level_last c.args.len c.args.fanout (level + 1) size (length c.push-in-loop-size.new.self) c.requires.several
     (omega arith) (rw (← sizes) e) (ap length sizes) in
-    ((λ one. omega (arith, told.0 one)), (λ last. told.1 (omega arith)))
+    ((λ one. omega (arith, reported.0 one)), (λ last. reported.1 (omega arith)))

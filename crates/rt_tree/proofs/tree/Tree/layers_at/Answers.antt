@@ -1,6 +1,6 @@
 use Rattle.std.proofs.{Common.{◌<◌, ◌≤◌, ◌∙◌, ℕ, ap, arith, length, map}, lemmas.List.{length-map, Elements.{All-map}}}
 use Rattle.rt_geo.specs.Layers.{most_layer, only}
-use Rattle.rt_tree.proofs.LeafLemmas.{layer_of, layers_told}
+use Rattle.rt_tree.proofs.LeafLemmas.{layer_of, layers_of_entry}
 use Rattle.rt_tree.proofs.tree.Tree.layers_at.Goals as goal
 
 pub of-requires : goal.of-requires
@@ -14,4 +14,4 @@ of-requires c =
 
 pub returns : goal.returns
 returns c = rw (← c.self.view_is)
-    (layers_told c.self.inside.leaves c.args.place c.of.result (c.of.ensures.value ∙ ap only c.layer.ensures))
+    (layers_of_entry c.self.inside.leaves c.args.place c.of.result (c.of.ensures.value ∙ ap only c.layer.ensures))

@@ -17,6 +17,6 @@ pub returns-clause-root : goal.returns-clause-root
 returns-clause-root c some =
     let tree = c.args.self.now in
     let sound : IsSound tree = rw (← c.self.view_is) c.self.invariant.0 in
-    let told = level_last (length tree.entries) tree.fanout c.args.level c.size.result _ sound.several some
+    let reported = level_last (length tree.entries) tree.fanout c.args.level c.size.result _ sound.several some
     (returns-clause-value c) sound.top in
-    ((λ one. omega (arith, told.0 one)), (λ top. told.1 (omega arith)))
+    ((λ one. omega (arith, reported.0 one)), (λ top. reported.1 (omega arith)))
