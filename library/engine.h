@@ -33,18 +33,18 @@ uint8_t rtfilter_engine_open_rows(rtfilter_session *out, const int32_t (*rows)[4
                                   const uint8_t *layers, size_t layers_len, uint8_t fanout, uint32_t max_entries,
                                   rtfilter_fault *fault);
 
-/* The program's line on a fault, without its line feed: as much as has room. Returns its length, 0 if the numbers are those of no
+/* The program's line on a fault, without its line feed: as much as fits. Returns its length, 0 if the numbers are those of no
  * fault. */
-size_t rtfilter_engine_fault_message(const rtfilter_fault *fault, uint8_t *room, size_t room_len);
+size_t rtfilter_engine_fault_message(const rtfilter_fault *fault, uint8_t *buffer, size_t buffer_len);
 
 uint8_t rtfilter_engine_share(rtfilter_session *of, rtfilter_session *out);
 
 void rtfilter_engine_close(rtfilter_session *it);
 
-uint8_t rtfilter_engine_ask(rtfilter_session *by, const uint8_t *lines, size_t len, uint8_t *room, size_t room_len,
+uint8_t rtfilter_engine_ask(rtfilter_session *by, const uint8_t *lines, size_t len, uint8_t *buffer, size_t buffer_len,
                             size_t *reply_len);
 
-size_t rtfilter_engine_reply(rtfilter_session *by, size_t from, uint8_t *room, size_t room_len);
+size_t rtfilter_engine_reply(rtfilter_session *by, size_t from, uint8_t *buffer, size_t buffer_len);
 
 void rtfilter_engine_forget(rtfilter_session *by);
 

@@ -2,11 +2,11 @@
 use Rattle.std.specs.Prelude.{◌≡◌, ◌+◌, ℕ, Bool, List, take, Option, Some, IfSome, Result, MatchResult}
 use Rattle.std.specs.Io.KnownBytes.{Appends, Consumes, IsAtEnd, Keeps}
 
--- a pull of n bytes: the next n bytes stand at the front of the room, none only where none are to come; a failure
+-- a pull of n bytes: the next n bytes stand at the front of the buffer, none only where none are to come; a failure
 -- consumes nothing, and known bytes stay known
 abbrev pub Pulls : {E : Type 0} → Option (List ℕ) → Option (List ℕ) → Result ℕ E → List ℕ → Type 0
-Pulls old new pulled room =
-    MatchResult pulled (λ n. Consumes old new (take n room) × (n ≡ 0 → IsAtEnd new)) (λ _. Keeps old new)
+Pulls old new pulled buffer =
+    MatchResult pulled (λ n. Consumes old new (take n buffer) × (n ≡ 0 → IsAtEnd new)) (λ _. Keeps old new)
 
 -- a push of n bytes: the first n bytes were appended; a failure appends nothing, and known bytes stay known
 abbrev pub Pushes : {E : Type 0} → Option (List ℕ) → Option (List ℕ) → Result ℕ E → List ℕ → Type 0
@@ -39,10 +39,10 @@ pub record Slice : Type 0 where
   -- how many pulls were made, as far as 64 bits count
   pub pulls : Option ℕ
 
--- bytes that room in memory has taken, at most so many a push
-pub record Room : Type 0 where
+-- bytes that a buffer in memory has taken, at most so many a push
+pub record Buffer : Type 0 where
   pub bytes : List ℕ
-  -- how many more there is room for
+  -- how many more it can take
   pub left : ℕ
   pub piece : ℕ
   -- the number, from 1, of the push or flush to come that fails; at 0 none does

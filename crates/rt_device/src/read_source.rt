@@ -39,8 +39,8 @@ impl<R: Read> Source for ReadSource<R> {
 
     ghost failed = { λ s. s.failures };
 
-    fn pull(&mut self, room: &mut [u8]) -> Result<usize, ReadFault> {
-        match self.reader.read(room) {
+    fn pull(&mut self, buffer: &mut [u8]) -> Result<usize, ReadFault> {
+        match self.reader.read(buffer) {
             Ok(n) => Ok(n),
             Err(_) => {
                 self.failures += 1;

@@ -8,10 +8,10 @@ ghost use Rattle.rt_device.specs.Devices.{Pushes};
 use crate::sink::{Sink, WriteFault};
 use std::marker::Model;
 
-/// Room in memory as a sink: at most `piece` bytes a push, and one call, counted from 1, that fails.
+/// A buffer in memory as a sink: at most `piece` bytes a push, and one call, counted from 1, that fails.
 #[derive(Drop)]
 pub struct SliceSink<'a> {
-    room: &'a mut [u8],
+    buffer: &'a mut [u8],
     len: usize,
     piece: usize,
     // The number, from 1, of the push or flush to come that fails; at 0 none does.
@@ -23,31 +23,31 @@ pub struct SliceSink<'a> {
 
 impl<'a> Model for SliceSink<'a> {
     ghost use Rattle.std.specs.Prelude.{◌<◌, ◌≤◌, ◌-◌, length, take};
-    ghost use Rattle.rt_device.specs.Devices.{Room};
+    ghost use Rattle.rt_device.specs.Devices.{Buffer};
 
-    ghost Value = { Room };
+    ghost Value = { Buffer };
 
     ghost view = { λ s. record {
-      bytes = take s.len s.room.now;
-      left = length s.room.now - s.len;
+      bytes = take s.len s.buffer.now;
+      left = length s.buffer.now - s.len;
       piece = s.piece;
       fails_in = s.fails_in;
       failures = s.failures;
       waits = s.waits;
     } };
 
-    ghost invariant = { λ s. (s.len ≤ length s.room.now) × (0 < s.piece) };
+    ghost invariant = { λ s. (s.len ≤ length s.buffer.now) × (0 < s.piece) };
 }
 
 impl<'a> SliceSink<'a> {
-    /// This room, filled from its front, at most `piece` bytes a push, which is at least 1. Call number
+    /// This buffer, filled from its front, at most `piece` bytes a push, which is at least 1. Call number
     /// `fail_at`, pushes and flushes counted together from 1, fails; at 0 or none, no call does. A push
-    /// takes 0 bytes where the room is used up.
-    pub fn new(room: &'a mut [u8], piece: usize, fail_at: Option<u64>) -> SliceSink<'a>
+    /// takes 0 bytes where the buffer is full.
+    pub fn new(buffer: &'a mut [u8], piece: usize, fail_at: Option<u64>) -> SliceSink<'a>
         requires { 0 < piece }
         ensures { result ≡ record {
           bytes = [];
-          left = length room.entry.now;
+          left = length buffer.entry.now;
           piece = piece;
           fails_in = unwrap_or fail_at 0;
           failures = 0;
@@ -55,7 +55,7 @@ impl<'a> SliceSink<'a> {
         } }
     {
         SliceSink {
-            room,
+            buffer,
             len: 0,
             piece,
             fails_in: fail_at.unwrap_or(0),
@@ -68,7 +68,7 @@ impl<'a> SliceSink<'a> {
     pub fn written(&self) -> &[u8]
         ensures { result.now ≡ self.now.bytes }
     {
-        &self.room[..self.len]
+        &self.buffer[..self.len]
     }
 
     // Counts a call, and returns whether it is the one that fails.
@@ -117,12 +117,12 @@ impl Sink for SliceSink<'_> {
             return Err(WriteFault);
         }
         let at = self.len;
-        let n = self.piece.min((self.room.len() - at).min(piece.len()));
+        let n = self.piece.min((self.buffer.len() - at).min(piece.len()));
         if n == 0 {
             self.failures += 1;
             return Ok(0);
         }
-        self.room[at..at + n].copy_from_slice(&piece[..n]);
+        self.buffer[at..at + n].copy_from_slice(&piece[..n]);
         self.len = at + n;
         self.waits = true;
         Ok(n)

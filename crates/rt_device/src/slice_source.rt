@@ -67,17 +67,17 @@ impl Source for SliceSource<'_> {
     ghost pulled = { λ s. s.pulls };
 
     // As the trait says, and beside that just which pull fails and how many bytes each other one gives.
-    fn pull(&mut self, room: &mut [u8]) -> Result<usize, ReadFault>
-        requires room { 0 < length room.old }
+    fn pull(&mut self, buffer: &mut [u8]) -> Result<usize, ReadFault>
+        requires buffer { 0 < length buffer.old }
         requires count { self.old.failures < 2 ^ 64 - 1 }
-        ensures bound { IfOk result (λ n. n ≤ length room.new) }
-        ensures bytes { Pulls (Some self.old.bytes) (Some self.new.bytes) result room.new }
+        ensures bound { IfOk result (λ n. n ≤ length buffer.new) }
+        ensures bytes { Pulls (Some self.old.bytes) (Some self.new.bytes) result buffer.new }
         ensures went { OnOk result (self.new.failures ≡ self.old.failures) }
         ensures fails { OnErr result (self.new.failures ≡ self.old.failures + 1) }
         ensures counted { PulledTimes 1 self.old.pulls self.new.pulls }
         ensures which { IsErr result ↔ (self.old.fails_in ≡ 1) }
         ensures many { IfOk result
-            (λ n. n ≡ min self.old.piece (min (length room.new) (length self.old.bytes))) }
+            (λ n. n ≡ min self.old.piece (min (length buffer.new) (length self.old.bytes))) }
         ensures later { (self.new.fails_in ≡ self.old.fails_in - 1)
             × (self.new.piece ≡ self.old.piece) }
     {
@@ -92,8 +92,8 @@ impl Source for SliceSource<'_> {
             return Err(ReadFault);
         }
         let all: &[u8] = self.bytes;
-        let n = self.piece.min(room.len().min(all.len()));
-        room[..n].copy_from_slice(&all[..n]);
+        let n = self.piece.min(buffer.len().min(all.len()));
+        buffer[..n].copy_from_slice(&all[..n]);
         self.bytes = &all[n..];
         Ok(n)
     }

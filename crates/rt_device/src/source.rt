@@ -18,12 +18,12 @@ pub trait Source {
     // How many pulls were made, where that is known. A source that doesn't count them leaves this out.
     ghost pulled: { Self → Option ℕ } = { λ _. None };
 
-    /// Puts the next bytes at the front of the room, and returns how many: 0 only where none are to come.
-    fn pull(&mut self, room: &mut [u8]) -> Result<usize, ReadFault>
-        requires room { 0 < length room.old }
+    /// Puts the next bytes at the front of the buffer, and returns how many: 0 only where none are to come.
+    fn pull(&mut self, buffer: &mut [u8]) -> Result<usize, ReadFault>
+        requires buffer { 0 < length buffer.old }
         requires count { failed self.old < 2 ^ 64 - 1 }
-        ensures bound { IfOk result (λ n. n ≤ length room.new) }
-        ensures bytes { Pulls (coming self.old) (coming self.new) result room.new }
+        ensures bound { IfOk result (λ n. n ≤ length buffer.new) }
+        ensures bytes { Pulls (coming self.old) (coming self.new) result buffer.new }
         ensures went { OnOk result (failed self.new ≡ failed self.old) }
         ensures fails { OnErr result (failed self.new ≡ failed self.old + 1) }
         ensures counted { PulledTimes 1 (pulled self.old) (pulled self.new) };

@@ -39,9 +39,9 @@ impl FailsFirst {
 }
 
 impl Read for FailsFirst {
-    fn read(&mut self, room: &mut [u8]) -> io::Result<usize> {
+    fn read(&mut self, buffer: &mut [u8]) -> io::Result<usize> {
         self.called()?;
-        Ok(room.len().min(1))
+        Ok(buffer.len().min(1))
     }
 }
 
@@ -124,7 +124,7 @@ fn no_write_follows_one_that_failed(rt: HostRuntime) -> Result<(), Fail> {
     drop(sink);
     expect_eq(&rt, flushed.calls, 1);
 
-    // (the buffer has no room for a push of two bytes more)
+    // (a push of two bytes more doesn't fit in the buffer)
     let mut filled = BROKEN;
     let mut sink = BufferedSink::new(BufWriter::with_capacity(rt.alloc(), 4, &mut filled)?);
     expect_eq(&rt, sink.push(b"abc"), Ok(3));
@@ -156,21 +156,21 @@ fn a_buffered_write_that_takes_nothing_is_a_failure(rt: HostRuntime) -> Result<(
 #[test]
 fn a_slice_gives_in_pieces(rt: HostRuntime) {
     let mut source = SliceSource::new(b"abcde", 2, Some(2));
-    let mut room = [0; 4];
-    expect_eq(&rt, source.pull(&mut room), Ok(2));
-    expect_eq(&rt, room, *b"ab\0\0");
-    expect_eq(&rt, source.pull(&mut room), Err(ReadFault));
-    expect_eq(&rt, source.pull(&mut room[..1]), Ok(1));
-    expect_eq(&rt, source.pull(&mut room), Ok(2));
-    expect_eq(&rt, room, *b"de\0\0");
-    expect_eq(&rt, source.pull(&mut room), Ok(0));
+    let mut buffer = [0; 4];
+    expect_eq(&rt, source.pull(&mut buffer), Ok(2));
+    expect_eq(&rt, buffer, *b"ab\0\0");
+    expect_eq(&rt, source.pull(&mut buffer), Err(ReadFault));
+    expect_eq(&rt, source.pull(&mut buffer[..1]), Ok(1));
+    expect_eq(&rt, source.pull(&mut buffer), Ok(2));
+    expect_eq(&rt, buffer, *b"de\0\0");
+    expect_eq(&rt, source.pull(&mut buffer), Ok(0));
     expect_eq(&rt, source.failures(), 1);
 }
 
 #[test]
 fn a_slice_takes_in_pieces(rt: HostRuntime) {
-    let mut room = [0; 4];
-    let mut sink = SliceSink::new(&mut room, 3, Some(2));
+    let mut buffer = [0; 4];
+    let mut sink = SliceSink::new(&mut buffer, 3, Some(2));
     expect_eq(&rt, sink.push(b"abcd"), Ok(3));
     expect_eq(&rt, sink.flush(), Err(WriteFault));
     expect_eq(&rt, sink.push(b"de"), Ok(1));

@@ -7,12 +7,12 @@ use rt_device::{
 };
 use std::process::Abort;
 
-// What a source answers, where there is room and one more failure can be counted.
-fn pull<S: Source>(source: &mut S, room: &mut [u8]) -> Option<Result<usize, ReadFault>> {
-    if room.is_empty() || source.failures() == u64::MAX {
+// What a source answers, where the buffer isn't empty and one more failure can be counted.
+fn pull<S: Source>(source: &mut S, buffer: &mut [u8]) -> Option<Result<usize, ReadFault>> {
+    if buffer.is_empty() || source.failures() == u64::MAX {
         return None;
     }
-    Some(source.pull(room))
+    Some(source.pull(buffer))
 }
 
 // What a sink answers, likewise.
@@ -39,9 +39,9 @@ static BY_ONE: [&[u8]; 4] = [b"a", b"b", b"c", b""];
 // The source gives these pieces, one a pull, and no pull fails.
 fn expect_pieces<S: Source>(rt: &impl Abort, source: &mut S, pieces: &[&[u8]]) {
     for piece in pieces {
-        let mut room = [b'.'; 4];
-        expect_eq(rt, pull(source, &mut room), Some(Ok(piece.len())));
-        expect_eq(rt, room.get(..piece.len()), Some(*piece));
+        let mut buffer = [b'.'; 4];
+        expect_eq(rt, pull(source, &mut buffer), Some(Ok(piece.len())));
+        expect_eq(rt, buffer.get(..piece.len()), Some(*piece));
         expect_eq(rt, source.failures(), 0);
     }
 }
@@ -58,23 +58,23 @@ fn sources_give_their_bytes_in_pieces(rt: HostRuntime) {
 #[test]
 fn a_pull_that_fails_takes_nothing(rt: HostRuntime) {
     let mut source = SliceSource::new(b"abc", 2, Some(2));
-    let mut room = [b'.'; 4];
-    expect_eq(&rt, source.pull(&mut room), Ok(2));
-    expect_eq(&rt, source.pull(&mut room), Err(ReadFault));
+    let mut buffer = [b'.'; 4];
+    expect_eq(&rt, source.pull(&mut buffer), Ok(2));
+    expect_eq(&rt, source.pull(&mut buffer), Err(ReadFault));
     expect_eq(&rt, source.failures(), 1);
-    expect_eq(&rt, source.pull(&mut room), Ok(1));
-    expect_eq(&rt, room[0], b'c');
+    expect_eq(&rt, source.pull(&mut buffer), Ok(1));
+    expect_eq(&rt, buffer[0], b'c');
     expect_eq(&rt, source.failures(), 1);
 }
 
 #[test]
-fn a_pull_fills_no_more_than_the_room(rt: HostRuntime) {
+fn a_pull_fills_no_more_than_the_buffer(rt: HostRuntime) {
     let mut source = SliceSource::new(b"abc", 3, None);
-    let mut room = [b'.'; 4];
-    expect_eq(&rt, source.pull(&mut room[..2]), Ok(2));
-    expect_eq(&rt, room, *b"ab..");
-    expect_eq(&rt, source.pull(&mut room[2..]), Ok(1));
-    expect_eq(&rt, room, *b"abc.");
+    let mut buffer = [b'.'; 4];
+    expect_eq(&rt, source.pull(&mut buffer[..2]), Ok(2));
+    expect_eq(&rt, buffer, *b"ab..");
+    expect_eq(&rt, source.pull(&mut buffer[2..]), Ok(1));
+    expect_eq(&rt, buffer, *b"abc.");
 }
 
 // The sink takes these pieces whole, one a push, and hands them on.
@@ -90,20 +90,20 @@ static TAKEN: [&[u8]; 2] = [b"ab", b"c"];
 
 #[test]
 fn sinks_put_their_bytes_one_after_another(rt: HostRuntime) {
-    let mut room = [b'.'; 4];
-    expect_taken(&rt, &mut WriteSink::new(&mut room[..]), &TAKEN);
-    expect_eq(&rt, room, *b"abc.");
-    let mut room = [b'.'; 4];
-    let mut sink = SliceSink::new(&mut room, 2, None);
+    let mut buffer = [b'.'; 4];
+    expect_taken(&rt, &mut WriteSink::new(&mut buffer[..]), &TAKEN);
+    expect_eq(&rt, buffer, *b"abc.");
+    let mut buffer = [b'.'; 4];
+    let mut sink = SliceSink::new(&mut buffer, 2, None);
     expect_taken(&rt, &mut sink, &TAKEN);
     expect_eq(&rt, sink.written(), b"abc".as_slice());
-    expect_eq(&rt, room, *b"abc.");
+    expect_eq(&rt, buffer, *b"abc.");
 }
 
 #[test]
 fn pushes_and_flushes_are_counted_together(rt: HostRuntime) {
-    let mut room = [b'.'; 4];
-    let mut sink = SliceSink::new(&mut room, 2, Some(3));
+    let mut buffer = [b'.'; 4];
+    let mut sink = SliceSink::new(&mut buffer, 2, Some(3));
     expect_eq(&rt, sink.push(b"abc"), Ok(2));
     expect_eq(&rt, sink.flush(), Ok(()));
     expect_eq(&rt, sink.push(b"c"), Err(WriteFault));
@@ -115,17 +115,17 @@ fn pushes_and_flushes_are_counted_together(rt: HostRuntime) {
 
 #[test]
 fn a_flush_that_fails_takes_nothing(rt: HostRuntime) {
-    let mut room = [b'.'; 4];
-    let mut sink = SliceSink::new(&mut room, 2, Some(1));
+    let mut buffer = [b'.'; 4];
+    let mut sink = SliceSink::new(&mut buffer, 2, Some(1));
     expect_eq(&rt, sink.flush(), Err(WriteFault));
     expect_eq(&rt, sink.failures(), 1);
     expect_eq(&rt, sink.written(), b"".as_slice());
 }
 
 #[test]
-fn a_push_without_room_is_a_failure(rt: HostRuntime) {
-    let mut room = [b'.'; 1];
-    let mut sink = SliceSink::new(&mut room, 2, None);
+fn a_push_into_a_full_buffer_is_a_failure(rt: HostRuntime) {
+    let mut buffer = [b'.'; 1];
+    let mut sink = SliceSink::new(&mut buffer, 2, None);
     expect_eq(&rt, sink.push(b"ab"), Ok(1));
     expect_eq(&rt, sink.failures(), 0);
     expect_eq(&rt, sink.push(b"b"), Ok(0));

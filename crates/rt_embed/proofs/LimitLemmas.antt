@@ -34,16 +34,16 @@ pub put_within : (list : List Answer) (from to : Position) (ids ids' : List ℤ)
     → IsPut list from to ids ids' scores scores'
 put_within list from to ids ids' scores scores' place put =
     let few = put.put in
-    let room = length ids - from.end in
+    let space = length ids - from.end in
     let rest = drop from.skip list in
-    let split : needed_from from (length ids) ≡ from.skip + (room + 1) = omega arith in
-    let part : drop from.skip (take (needed_from from (length ids)) list) ≡ take (room + 1) rest =
-    ap (λ n. drop from.skip (take n list)) split ∙ drop-take from.skip (room + 1) list in
-    let inside : to.end - from.end ≤ room + 1 = omega (arith, few.place) in
+    let split : needed_from from (length ids) ≡ from.skip + (space + 1) = omega arith in
+    let part : drop from.skip (take (needed_from from (length ids)) list) ≡ take (space + 1) rest =
+    ap (λ n. drop from.skip (take n list)) split ∙ drop-take from.skip (space + 1) list in
+    let inside : to.end - from.end ≤ space + 1 = omega (arith, few.place) in
     let same : take (to.end - from.end) (drop from.skip (take (needed_from from (length ids)) list)) ≡ take (to.end - from.end) rest =
-    ap (take (to.end - from.end)) part ∙ take-take (to.end - from.end) (room + 1) rest inside in
-    let many : length (drop from.skip (take (needed_from from (length ids)) list)) ≡ min (room + 1) (length rest) =
-    ap length part ∙ length-take (room + 1) rest in
+    ap (take (to.end - from.end)) part ∙ take-take (to.end - from.end) (space + 1) rest inside in
+    let many : length (drop from.skip (take (needed_from from (length ids)) list)) ≡ min (space + 1) (length rest) =
+    ap length part ∙ length-take (space + 1) rest in
     record {
       put = record {
         ids_stand = rw same at few.ids_stand;

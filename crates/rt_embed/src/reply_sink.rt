@@ -21,11 +21,11 @@ impl Model for ReplySink {
 }
 
 impl ReplySink {
-    /// No bytes, in the room of a vector.
-    pub(crate) fn new(room: Vec<u8>) -> ReplySink
+    /// No bytes, in the memory of a vector.
+    pub(crate) fn new(buffer: Vec<u8>) -> ReplySink
         ensures { result ≡ record { bytes = []; failures = 0 } }
     {
-        let mut bytes = room;
+        let mut bytes = buffer;
         bytes.clear();
         ReplySink { bytes, failures: 0 }
     }

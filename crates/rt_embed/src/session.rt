@@ -24,7 +24,7 @@ use std::marker::Model;
 use std::mem;
 use std::sync::Arc;
 
-/// A loaded tree, which sessions share, and what one of them needs for itself: the room of its searches, and its reply.
+/// A loaded tree, which sessions share, and what one of them needs for itself: the memory of its searches, and its reply.
 ///
 /// It is seen as the tree, the reply to the last text, and how many nodes were opened in its frontier. No call changes the
 /// tree. A call that finds no memory returns [`AllocError`], and the session can be asked again.
@@ -134,9 +134,9 @@ impl Session {
         ensures worked { IfOk result (λ _.
             HasOpened self.old.opened (opened_by_text self.old.tree queries.now) self.new.opened) }
     {
-        let room = mem::replace(&mut self.reply, Vec::new(alloc));
+        let buffer = mem::replace(&mut self.reply, Vec::new(alloc));
         let frontier = self.take_frontier(alloc)?;
-        let mut sink = ReplySink::new(room);
+        let mut sink = ReplySink::new(buffer);
         match answer_batch(&self.tree, frontier, queries, &mut sink) {
             Ok((bad, frontier)) => {
                 self.frontier = Some(frontier);
@@ -225,7 +225,7 @@ impl Session {
 
     // The first session of a tree.
     fn of_tree(alloc: Global, tree: Tree, frontier: Frontier) -> Result<Session, AllocError>
-        requires room { length tree.entries ≤ frontier.capacity }
+        requires capacity { length tree.entries ≤ frontier.capacity }
         ensures { IfOk result (λ session. session ≡ record {
           tree = tree;
           reply = [];
@@ -241,7 +241,7 @@ impl Session {
 
     // The frontier, a new one where the last call found no memory.
     fn take_frontier(&mut self, alloc: Global) -> Result<Frontier, AllocError>
-        ensures room { IfOk result (λ f. length self.old.tree.entries ≤ f.capacity) }
+        ensures capacity { IfOk result (λ f. length self.old.tree.entries ≤ f.capacity) }
         ensures made { IsSome self.old.opened → IsOk result }
         ensures counted { IfOk result (λ f. IfSome self.old.opened (λ n. f.opened ≡ n)) }
         ensures same { self.new ≡ record self.old { opened = None } }

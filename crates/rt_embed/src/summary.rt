@@ -43,7 +43,7 @@ fn hull_of_boxes(tree: &Tree) -> Option<Bounds>
     }
 }
 
-/// Writes how many boxes or nodes each level has, from the boxes up, as many as have room, and zeros into the rest.
+/// Writes how many boxes or nodes each level has, from the boxes up, as many as fit, and zeros into the rest.
 pub fn copy_level_sizes(tree: &Tree, sizes: &mut [u32])
     ensures sizes { let levels = level_sizes (length tree.now.entries) tree.now.fanout in
         (level : ℕ) → level < length sizes.new

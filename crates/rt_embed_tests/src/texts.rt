@@ -8,13 +8,13 @@ use rt_text::{Axis, TableFault};
 use std::process::Abort;
 
 /// The most bytes that a run of these tests writes.
-const ROOM: usize = 4096;
+const CAPACITY: usize = 4096;
 
 // Asks, and compares the reply and whether a line is faulty with what a run writes and its status.
 fn expect_as_run<R: Abort + AllocGlobal>(rt: &R, session: &mut Session, fanout: u8, text: &[u8]) {
-    let mut source = SliceSource::new(text, ROOM, None);
-    let mut room = [0u8; ROOM];
-    let mut sink = SliceSink::new(&mut room, ROOM, None);
+    let mut source = SliceSource::new(text, CAPACITY, None);
+    let mut buffer = [0u8; CAPACITY];
+    let mut sink = SliceSink::new(&mut buffer, CAPACITY, None);
     let settings = settings(rt, fanout);
     let outcome = run(
         rt.alloc(),

@@ -26,7 +26,7 @@ module _ (bytes : List ℕ) (start searched : ℕ) (order : start ≤ searched) 
       ap (λ k. take k (drop start bytes)) long ∙ take-add (searched - start) n (drop start bytes)
       ∙ ap (λ zs. begun_at ++ take n zs) behind
 
-  -- it is no longer than a line may be where the buffer has room for no more and its line feed
+  -- it is no longer than a line may be where the buffer has capacity for no more and its line feed
   pub line_fits : (n : ℕ) → IsFirstByte (is_byte line_feed) (drop searched bytes) (Some n) → length bytes ≤ longest_line + 1
       → length (take (searched + n - start) (drop start bytes)) ≤ longest_line
   line_fits n at most =
@@ -63,27 +63,27 @@ module _ (buffer filled tail : List ℕ) (kept : ℕ) (fits : kept ≤ length bu
   rest_of = ap (drop kept) is ∙ ap (λ m. drop m (take kept buffer ++ tail)) (sym long) ∙ drop-append_seam (take kept buffer) tail
 
 -- what a pull gave
-pub pulled : (buffer room : List ℕ) (kept k n : ℕ) → kept ≤ length buffer → n ≤ length room
-    → take (kept + n) (put_mid kept k buffer room) ≡ take kept buffer ++ take n room
-pulled buffer room kept k n fits few =
-    let all : take (kept + length room) (put_mid kept k buffer room) ≡ take kept buffer ++ room =
-    take-put_mid kept k buffer room (kept + length room) refl fits in
-    let front : take (kept + n) (take (kept + length room) (put_mid kept k buffer room)) ≡ take (kept + n) (put_mid kept k buffer room) =
-    take-take (kept + n) (kept + length room) (put_mid kept k buffer room) (omega (arith, few)) in
-    sym front ∙ ap (take (kept + n)) all ∙ ap (λ m. take (m + n) (take kept buffer ++ room)) (sym (length-take-le kept buffer fits))
-    ∙ take-append-add (take kept buffer) room n
+pub pulled : (buffer piece : List ℕ) (kept k n : ℕ) → kept ≤ length buffer → n ≤ length piece
+    → take (kept + n) (put_mid kept k buffer piece) ≡ take kept buffer ++ take n piece
+pulled buffer piece kept k n fits few =
+    let all : take (kept + length piece) (put_mid kept k buffer piece) ≡ take kept buffer ++ piece =
+    take-put_mid kept k buffer piece (kept + length piece) refl fits in
+    let front : take (kept + n) (take (kept + length piece) (put_mid kept k buffer piece)) ≡ take (kept + n) (put_mid kept k buffer piece) =
+    take-take (kept + n) (kept + length piece) (put_mid kept k buffer piece) (omega (arith, few)) in
+    sym front ∙ ap (take (kept + n)) all ∙ ap (λ m. take (m + n) (take kept buffer ++ piece)) (sym (length-take-le kept buffer fits))
+    ∙ take-append-add (take kept buffer) piece n
 
-pub length_pulled : (buffer room : List ℕ) (kept k n : ℕ) → kept ≤ length buffer → n ≤ length room
-    → length (take (kept + n) (put_mid kept k buffer room)) ≡ kept + n
-length_pulled buffer room kept k n fits few =
-    ap length (pulled buffer room kept k n fits few) ∙ length-append (take kept buffer) (take n room)
-    ∙ omega (arith, length-take-le kept buffer fits, length-take-le n room few)
+pub length_pulled : (buffer piece : List ℕ) (kept k n : ℕ) → kept ≤ length buffer → n ≤ length piece
+    → length (take (kept + n) (put_mid kept k buffer piece)) ≡ kept + n
+length_pulled buffer piece kept k n fits few =
+    ap length (pulled buffer piece kept k n fits few) ∙ length-append (take kept buffer) (take n piece)
+    ∙ omega (arith, length-take-le kept buffer fits, length-take-le n piece few)
 
 -- a line feed, which is put there when no more bytes come
-pub ended : (buffer room : List ℕ) (kept k : ℕ) → kept < length buffer → kept + k ≡ length buffer → length room ≡ k
-    → take (kept + 1) (set (put_mid kept k buffer room) kept line_feed) ≡ take kept buffer ++ line_feed ∷ []
-ended buffer room kept k fits parts many =
+pub ended : (buffer piece : List ℕ) (kept k : ℕ) → kept < length buffer → kept + k ≡ length buffer → length piece ≡ k
+    → take (kept + 1) (set (put_mid kept k buffer piece) kept line_feed) ≡ take kept buffer ++ line_feed ∷ []
+ended buffer piece kept k fits parts many =
     let part = length-take-le k (drop kept buffer) (omega (arith, parts, length-drop kept buffer)) in
-    let all = same_len_mid kept k buffer room (many ∙ sym part) in
-    take_more_set (put_mid kept k buffer room) kept line_feed (omega (arith, fits, all))
-    ∙ ap (λ front. front ++ line_feed ∷ []) (take-put_mid_below kept k buffer room kept (omega arith) (omega (arith, fits)))
+    let all = same_len_mid kept k buffer piece (many ∙ sym part) in
+    take_more_set (put_mid kept k buffer piece) kept line_feed (omega (arith, fits, all))
+    ∙ ap (λ front. front ++ line_feed ∷ []) (take-put_mid_below kept k buffer piece kept (omega arith) (omega (arith, fits)))

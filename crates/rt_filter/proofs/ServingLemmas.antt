@@ -31,9 +31,9 @@ consumes_kept : (old mid new : Option (List ℕ)) (xs : List ℕ) → Consumes o
 consumes_kept old mid new xs h k = grind (arith, h, k)
 
 -- a pull gave a byte at least
-pub consumed_more : (count n : ℕ) (room : List ℕ) (old mid new : Option (List ℕ)) → ConsumedAtLeast count old mid → 1 ≤ n → n ≤ length room
-    → Consumes mid new (take n room) → ConsumedAtLeast (count + 1) old new
-consumed_more count n room old mid new h some bound k = search (rules, consumes_more, length-append, length-take-le)
+pub consumed_more : (count n : ℕ) (buffer : List ℕ) (old mid new : Option (List ℕ)) → ConsumedAtLeast count old mid → 1 ≤ n → n ≤ length buffer
+    → Consumes mid new (take n buffer) → ConsumedAtLeast (count + 1) old new
+consumed_more count n buffer old mid new h some bound k = search (rules, consumes_more, length-append, length-take-le)
 
 pub pulled_more : (times : ℕ) (old mid new : Option ℕ) → PulledTimes times old mid → PulledTimes 1 mid new → PulledTimes (times + 1) old new
 pulled_more times old mid new h k = grind (arith, h, k)

@@ -23,7 +23,7 @@ pub fn answer_batch<K: Sink>(
     text: &[u8],
     sink: &mut K,
 ) -> Result<(bool, Frontier), WriteFault>
-    requires room { length tree.now.entries ≤ frontier.capacity }
+    requires capacity { length tree.now.entries ≤ frontier.capacity }
     requires sink_count { K.failed sink.old < 2 ^ 64 - 1 }
     // The replies to all lines, over any entries whose packed tree this is; after a failed push or flush a prefix of them.
     ensures replies { (loaded : Loaded) → tree.now ≡ tree_of loaded
@@ -48,7 +48,7 @@ fn answer_text<K: Sink>(
     text: &[u8],
     sink: &mut K,
 ) -> Result<(bool, Frontier), WriteFault>
-    requires room { length tree.now.entries ≤ frontier.capacity }
+    requires capacity { length tree.now.entries ≤ frontier.capacity }
     requires sink_count { K.failed sink.old < 2 ^ 64 - 1 }
     ensures pushed { Pushed K.written K.failed sink.old sink.new result
         (output (loaded_tree tree.now) (numbered_lines text.now true)) }

@@ -25,16 +25,16 @@ pub(crate) trait Exchange<B: Start, K: Sink> {
 
     ghost pulled: { Self → Option ℕ };
 
-    /// Puts the next bytes at the front of the room, and returns how many: 0 only where none are to come.
-    fn pull_next(&mut self, sink: &K, room: &mut [u8]) -> Result<usize, ReadFault>
+    /// Puts the next bytes at the front of the buffer, and returns how many: 0 only where none are to come.
+    fn pull_next(&mut self, sink: &K, buffer: &mut [u8]) -> Result<usize, ReadFault>
         // The replies to the lines that are complete are written, and nothing else.
         requires answered { IsAnswered B.at_start (coming self.old) (K.written sink.now) }
         // They are flushed too, if nothing waited for a flush when serving began.
         requires flushed { B.at_start.devices.waits ≡ false → K.waits sink.now ≡ false }
-        requires room { 0 < length room.old }
+        requires buffer { 0 < length buffer.old }
         requires count { failed self.old < 2 ^ 64 - 1 }
-        ensures bound { IfOk result (λ n. n ≤ length room.new) }
-        ensures bytes { Pulls (coming self.old) (coming self.new) result room.new }
+        ensures bound { IfOk result (λ n. n ≤ length buffer.new) }
+        ensures bytes { Pulls (coming self.old) (coming self.new) result buffer.new }
         ensures went { OnOk result (failed self.new ≡ failed self.old) }
         ensures fails { OnErr result (failed self.new ≡ failed self.old + 1) }
         ensures counted { PulledTimes 1 (pulled self.old) (pulled self.new) };
@@ -47,7 +47,7 @@ impl<B: Start, S: Source, K: Sink> Exchange<B, K> for S {
 
     ghost pulled = { S.pulled };
 
-    fn pull_next(&mut self, _sink: &K, room: &mut [u8]) -> Result<usize, ReadFault> {
-        self.pull(room)
+    fn pull_next(&mut self, _sink: &K, buffer: &mut [u8]) -> Result<usize, ReadFault> {
+        self.pull(buffer)
     }
 }

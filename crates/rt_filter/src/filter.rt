@@ -118,7 +118,7 @@ pub fn run<R: Read + Drop, S: Source, K: Sink>(
     }
 }
 
-/// The tree of a table, and a frontier with room for every query over it. No fault is one of the queries or the output.
+/// The tree of a table, and a frontier with capacity for every query over it. No fault is one of the queries or the output.
 pub fn load<R: Read + Drop>(
     alloc: Global,
     settings: &Settings,
@@ -126,7 +126,7 @@ pub fn load<R: Read + Drop>(
 ) -> Result<(Tree, Frontier), RunFault>
     ensures loaded { IfOk result (λ loaded. (table : List ℕ)
         → R.remaining reader ≡ Some table → HasLoaded settings.now table loaded.0) }
-    ensures room { IfOk result (λ loaded. length loaded.0.entries ≤ loaded.1.capacity) }
+    ensures capacity { IfOk result (λ loaded. length loaded.0.entries ≤ loaded.1.capacity) }
     ensures stops { IfErr result (λ fault. (table : List ℕ)
         → R.remaining reader ≡ Some table → Stops settings.now table fault) }
     ensures memory { IfErr result (λ fault. fault ≢ RunFault.Table TableFault.Memory) }

@@ -39,7 +39,7 @@ pub trait Job {
         geometry: G,
         limit: Option<u64>,
     ) -> Self::Outcome
-        requires room { length tree.now.entries ≤ frontier.capacity }
+        requires capacity { length tree.now.entries ≤ frontier.capacity }
         requires runs { runs self.old tree.now limit }
         ensures { let t = tree.now in let meaning = G.meaning geometry in
             does self.old self.new frontier
@@ -58,7 +58,7 @@ pub fn with_geometry<J: Job>(
     limit: Option<u64>,
     job: &mut J,
 ) -> J::Outcome
-    requires room { length tree.now.entries ≤ frontier.capacity }
+    requires capacity { length tree.now.entries ≤ frontier.capacity }
     requires runs { J.runs job.old tree.now limit }
     ensures { let t = tree.now in let meaning = meaning_of region.now layers order in
         J.does job.old job.new frontier
@@ -88,7 +88,7 @@ fn with_region<J: Job>(
     limit: Option<u64>,
     job: &mut J,
 ) -> J::Outcome
-    requires room { length tree.now.entries ≤ frontier.capacity }
+    requires capacity { length tree.now.entries ≤ frontier.capacity }
     requires runs { J.runs job.old tree.now limit }
     ensures { let t = tree.now in let meaning =
         searched_in_shape (region_accepts region.now) (region_state region.now) order limit in
@@ -120,7 +120,7 @@ fn with_polygon<J: Job>(
     limit: Option<u64>,
     job: &mut J,
 ) -> J::Outcome
-    requires room { length tree.now.entries ≤ frontier.capacity }
+    requires capacity { length tree.now.entries ≤ frontier.capacity }
     requires runs { J.runs job.old tree.now limit }
     ensures { let t = tree.now in let asked = region.Polygon polygon.now in let meaning =
         searched_in_shape (region_accepts asked) (region_state asked) order limit in
@@ -144,7 +144,7 @@ fn with_shape<S: Shape + Drop, J: Job>(
     limit: Option<u64>,
     job: &mut J,
 ) -> J::Outcome
-    requires room { length tree.now.entries ≤ frontier.capacity }
+    requires capacity { length tree.now.entries ≤ frontier.capacity }
     requires runs { J.runs job.old tree.now limit }
     ensures { let t = tree.now in let meaning =
         searched_in_shape (S.accepts shape) (S.state shape) order limit in
@@ -171,7 +171,7 @@ fn with_scored_nodes<G: Geometry + Drop, J: Job>(
     limit: Option<u64>,
     job: &mut J,
 ) -> J::Outcome
-    requires room { length tree.now.entries ≤ frontier.capacity }
+    requires capacity { length tree.now.entries ≤ frontier.capacity }
     requires runs { J.runs job.old tree.now limit }
     ensures { let t = tree.now in let meaning = scored_up_to limit (G.meaning geometry) in
         J.does job.old job.new frontier

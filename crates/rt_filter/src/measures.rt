@@ -19,7 +19,7 @@ pub fn count_boxes(
     region: &Region,
     layers: Layers,
 ) -> (u64, Frontier)
-    requires room { length tree.now.entries ≤ frontier.capacity }
+    requires capacity { length tree.now.entries ≤ frontier.capacity }
     ensures accepted { let meaning = meaning_of region.now layers by_id in
         result.0 ≡ length (accepted tree.now.entries meaning) }
     ensures worked { let meaning = meaning_of region.now layers by_id in
@@ -68,7 +68,7 @@ pub fn cost_of_find(
     order: Order,
     limit: Option<u64>,
 ) -> (u64, Frontier)
-    requires room { length tree.now.entries ≤ frontier.capacity }
+    requires capacity { length tree.now.entries ≤ frontier.capacity }
     ensures opened { let meaning = meaning_of region.now layers order in
         result.0 ≡ opened_by_search meaning tree.now limit }
     ensures worked { CountsOn frontier.opened result.0 result.1.opened }
@@ -90,7 +90,7 @@ pub fn cost_of_count(
     region: &Region,
     layers: Layers,
 ) -> (u64, Frontier)
-    requires room { length tree.now.entries ≤ frontier.capacity }
+    requires capacity { length tree.now.entries ≤ frontier.capacity }
     ensures opened { result.0 ≡ opened_by_count (meaning_of region.now layers by_id) tree.now }
     ensures worked { CountsOn frontier.opened result.0 result.1.opened }
     ensures capacity { result.1.capacity ≡ frontier.capacity }

@@ -13,7 +13,7 @@ use std::alloc::Global;
 use std::io::{self, BufWriter, Read, Write};
 
 /// How many bytes of answers are kept before they are written. They are handed on before each pull in any case.
-const OUTPUT_ROOM: usize = 65_536;
+const OUTPUT_CAPACITY: usize = 65_536;
 
 /// Opens the table and then the queries, unless these come from the input, and runs over them, with a buffered writer.
 /// Returns how the program ends, and the writer where a run was made.
@@ -67,7 +67,7 @@ fn run_buffered<T: Read + Drop, Q: Read + Drop, W: Write + Drop>(
         (T.remaining table)
         (record { coming = Q.remaining queries; written = W.contents answers }) result.0 result.1 }
 {
-    let Ok(answers) = BufWriter::with_capacity(alloc, OUTPUT_ROOM, answers) else {
+    let Ok(answers) = BufWriter::with_capacity(alloc, OUTPUT_CAPACITY, answers) else {
         return (Ending::NoMemory, None);
     };
     let (outcome, _queries, answers) = run_std(alloc, settings, table, queries, answers);

@@ -67,7 +67,7 @@ impl Progress {
         sink: &mut K,
     ) -> Result<(Frontier, usize), WriteFault>
         requires kept { kept ≤ length bytes.now }
-        requires room { length tree.now.entries ≤ frontier.capacity }
+        requires capacity { length tree.now.entries ≤ frontier.capacity }
         requires count { K.failed sink.old < 2 ^ 64 - 1 }
         requires fits { length bytes.now ≤ longest_line + 1 }
         requires few { self.old.lines + length bytes.now < 2 ^ 128 }
@@ -119,7 +119,7 @@ impl Progress {
         ensures kept { (pulled : List ℕ)
             → IsLeft self.old (drop start (take filled buffer.old)) pulled
             → IsAfter self.new (take result buffer.new) pulled }
-        ensures room { result ≤ longest_line }
+        ensures bound { result ≤ longest_line }
         ensures few { self.new.lines ≡ self.old.lines }
     {
         let left = filled - start;
@@ -143,7 +143,7 @@ impl Progress {
         is_pushed: &mut bool,
         sink: &mut K,
     ) -> Result<Frontier, WriteFault>
-        requires room { length tree.now.entries ≤ frontier.capacity }
+        requires capacity { length tree.now.entries ≤ frontier.capacity }
         requires count { K.failed sink.old < 2 ^ 64 - 1 }
         requires few { self.old.lines + 1 < 2 ^ 128 }
         ensures pushed { Pushed K.written K.failed sink.old sink.new result (reply
@@ -189,7 +189,7 @@ impl Progress {
         is_pushed: &mut bool,
         sink: &mut K,
     ) -> Result<Frontier, WriteFault>
-        requires room { length tree.now.entries ≤ frontier.capacity }
+        requires capacity { length tree.now.entries ≤ frontier.capacity }
         requires count { K.failed sink.old < 2 ^ 64 - 1 }
         requires few { self.old.lines + 1 < 2 ^ 128 }
         ensures pushed { Pushed K.written K.failed sink.old sink.new result (reply

@@ -38,7 +38,7 @@ pub(crate) fn push_reply<K: Sink>(
     query: &Query,
     sink: &mut K,
 ) -> Result<Frontier, WriteFault>
-    requires room { length tree.now.entries ≤ frontier.capacity }
+    requires capacity { length tree.now.entries ≤ frontier.capacity }
     requires count { K.failed sink.old < 2 ^ 64 - 1 }
     ensures pushed { Pushed K.written K.failed sink.old sink.new result
         (query_reply (loaded_tree tree.now) line query.now) }
@@ -89,7 +89,7 @@ fn push_find<K: Sink>(
     limit: Option<u64>,
     sink: &mut K,
 ) -> Result<Frontier, WriteFault>
-    requires room { length tree.now.entries ≤ frontier.capacity }
+    requires capacity { length tree.now.entries ≤ frontier.capacity }
     requires count { K.failed sink.old < 2 ^ 64 - 1 }
     ensures pushed { let meaning = meaning_of region.now layers order in
         Pushed K.written K.failed sink.old sink.new result
@@ -144,7 +144,7 @@ fn find<G: Geometry + Drop, K: Sink>(
     limit: Option<u64>,
     sink: &mut K,
 ) -> Result<Frontier, WriteFault>
-    requires room { length tree.now.entries ≤ frontier.capacity }
+    requires capacity { length tree.now.entries ≤ frontier.capacity }
     requires count { K.failed sink.old < 2 ^ 64 - 1 }
     ensures pushed { Pushed K.written K.failed sink.old sink.new result
         (find_reply line (answers tree.now.entries (G.meaning geometry) limit)) }

@@ -42,7 +42,7 @@ pub fn serve<S: Source, K: Sink>(
     sink: &mut K,
     turns: u64,
 ) -> Served
-    requires room { length tree.now.entries ≤ frontier.capacity }
+    requires capacity { length tree.now.entries ≤ frontier.capacity }
     requires source_count { S.failed source.old < 2 ^ 64 - 1 }
     requires sink_count { K.failed sink.old < 2 ^ 64 - 1 }
     // The replies are those over any entries whose packed tree this is. A device that reports its bytes reports them then
@@ -68,7 +68,7 @@ fn serve_from<B: Start, S: Source, K: Sink>(
     sink: &mut K,
     turns: u64,
 ) -> Served
-    requires room { length tree.now.entries ≤ frontier.capacity }
+    requires capacity { length tree.now.entries ≤ frontier.capacity }
     requires source_count { S.failed source.old < 2 ^ 64 - 1 }
     requires sink_count { K.failed sink.old < 2 ^ 64 - 1 }
     requires loaded { B.at_start.loaded ≡ loaded_tree tree.now }
@@ -88,7 +88,7 @@ fn serve_turns<B: Start, S: Exchange<B, K>, K: Sink>(
     sink: &mut K,
     turns: u64,
 ) -> Served
-    requires room { length tree.now.entries ≤ frontier.capacity }
+    requires capacity { length tree.now.entries ≤ frontier.capacity }
     requires source_count { S.failed source.old < 2 ^ 64 - 1 }
     requires sink_count { K.failed sink.old < 2 ^ 64 - 1 }
     requires loaded { B.at_start.loaded ≡ loaded_tree tree.now }

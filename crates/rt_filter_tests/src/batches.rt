@@ -11,8 +11,8 @@ use std::alloc::Global;
 use std::process::Abort;
 use std::test::Fail;
 
-/// The most bytes that a sink of these tests has room for.
-const ROOM: usize = 1024;
+/// The most bytes that a sink of these tests can take.
+const CAPACITY: usize = 1024;
 
 // Answers a text. Returns the frontier.
 fn expect<R: Abort + AllocGlobal>(
@@ -24,10 +24,10 @@ fn expect<R: Abort + AllocGlobal>(
     bad: bool,
 ) -> Frontier {
     assert!(rt; tree.len() <= frontier.capacity());
-    let mut room = [0u8; ROOM];
-    let mut sink = SliceSink::new(&mut room, ROOM, None);
+    let mut buffer = [0u8; CAPACITY];
+    let mut sink = SliceSink::new(&mut buffer, CAPACITY, None);
     let answered = answer_batch(tree, frontier, text, &mut sink);
-    let (is_bad, left) = answered.expect(rt, "the sink has room");
+    let (is_bad, left) = answered.expect(rt, "the sink takes all");
     expect_eq(rt, sink.written(), written);
     expect_eq(rt, (is_bad, sink.failures()), (bad, 0));
     left
@@ -38,8 +38,8 @@ fn expect_as_served<R: Abort + AllocGlobal>(rt: &R, tree: &Tree, text: &[u8], pi
     assert!(rt; piece > 0);
     let frontier = Frontier::new(rt.alloc(), tree.len()).expect(rt, "there is memory");
     let mut source = SliceSource::new(text, piece, None);
-    let mut room = [0u8; ROOM];
-    let mut sink = SliceSink::new(&mut room, ROOM, None);
+    let mut buffer = [0u8; CAPACITY];
+    let mut sink = SliceSink::new(&mut buffer, CAPACITY, None);
     let Served { bad, fault } = serve(tree, frontier, &mut source, &mut sink, u64::MAX);
     expect_eq(rt, fault, None);
     let frontier = Frontier::new(rt.alloc(), tree.len()).expect(rt, "there is memory");
@@ -77,7 +77,7 @@ fn the_last_line_needs_no_line_feed(rt: HostRuntime) {
         b"find all first 2\ncount all\n\nlevels",
     ];
     for text in texts {
-        expect_as_served(&rt, &tree, text, ROOM);
+        expect_as_served(&rt, &tree, text, CAPACITY);
         expect_as_served(&rt, &tree, text, 1);
     }
 }
@@ -102,7 +102,7 @@ fn a_line_may_have_4096_bytes(rt: HostRuntime) -> Result<(), Fail> {
         let ends: [&[u8]; 3] = [b"", b"\n", b"\r\ncount all"];
         for end in ends {
             let text = letters(rt.alloc(), many, end)?;
-            expect_as_served(&rt, &tree, &text, ROOM);
+            expect_as_served(&rt, &tree, &text, CAPACITY);
         }
     }
     let long = letters(rt.alloc(), LONGEST_LINE + 1, b"\ncount all")?;
@@ -117,8 +117,8 @@ fn a_push_that_fails_leaves_a_prefix(rt: HostRuntime) {
     let tree = pack(&rt, rt.alloc());
     for front in 0..FOUND.len() {
         let frontier = Frontier::new(rt.alloc(), tree.len()).expect(&rt, "there is memory");
-        let mut room = [0u8; ROOM];
-        let mut sink = SliceSink::new(&mut room, 1, Some(front as u64 + 1));
+        let mut buffer = [0u8; CAPACITY];
+        let mut sink = SliceSink::new(&mut buffer, 1, Some(front as u64 + 1));
         let answered = answer_batch(&tree, frontier, FIND, &mut sink);
         expect_eq(&rt, answered.err(), Some(WriteFault));
         expect_eq(&rt, sink.written(), &FOUND[..front]);

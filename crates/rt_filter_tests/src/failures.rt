@@ -46,7 +46,7 @@ fn drops_a_long_line_that_never_ends(rt: HostRuntime) -> Result<(), Fail> {
 }
 
 #[test]
-fn tells_room_that_runs_out(rt: HostRuntime) {
+fn reports_a_full_sink(rt: HostRuntime) {
     let write = Some(RunFault::Write);
     let front: &[u8] = b"\x31\x20\x30\x0a\x32";
     for piece in [1, 2, LONGEST_PIECE] {
@@ -54,14 +54,17 @@ fn tells_room_that_runs_out(rt: HostRuntime) {
             let small = Given {
                 header,
                 piece,
-                room: 5,
+                capacity: 5,
                 ..PLAIN
             };
             small.expect(&rt, table, FIND, front, 5, write);
         }
     }
     // A write fault stands before a faulty line.
-    let faulty = Given { room: 10, ..PLAIN };
+    let faulty = Given {
+        capacity: 10,
+        ..PLAIN
+    };
     faulty.expect(&rt, BOXES, b"x\n", b"error 1 Q2", 5, write);
     faulty.expect(&rt, BOXES, b"x\nfind all", b"error 1 Q2", 5, write)
 }

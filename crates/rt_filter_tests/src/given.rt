@@ -37,7 +37,7 @@ pub(crate) struct Given {
     pub(crate) fanout: u8,
     pub(crate) max_entries: u32,
     pub(crate) piece: usize,
-    pub(crate) room: usize,
+    pub(crate) capacity: usize,
     pub(crate) pull_fails: Option<u64>,
     pub(crate) push_fails: Option<u64>,
     pub(crate) turns: u64,
@@ -48,7 +48,7 @@ pub(crate) const PLAIN: Given = Given {
     fanout: 16,
     max_entries: 16_777_216,
     piece: LONGEST_PIECE,
-    room: 256,
+    capacity: 256,
     pull_fails: None,
     push_fails: None,
     turns: u64::MAX,
@@ -82,10 +82,10 @@ impl Given {
             rt,
             "they are in range",
         );
-        assert!(rt; self.piece > 0 && self.room <= 256);
+        assert!(rt; self.piece > 0 && self.capacity <= 256);
         let mut source = SliceSource::new(queries, self.piece, self.pull_fails);
-        let mut room = [0u8; 256];
-        let mut sink = SliceSink::new(&mut room[..self.room], self.piece, self.push_fails);
+        let mut buffer = [0u8; 256];
+        let mut sink = SliceSink::new(&mut buffer[..self.capacity], self.piece, self.push_fails);
         let outcome = run(
             rt.alloc(),
             &settings,

@@ -6,12 +6,12 @@ use rt_filter::{ReadFault, RunFault, Settings, SliceSink, Source, run};
 use std::process::Abort;
 use std::test::Fail;
 
-/// Gives at most one piece a pull, and records how much room each pull has.
+/// Gives at most one piece a pull, and records the length of each pull's buffer.
 #[derive(Drop)]
 struct Metered<'a> {
     bytes: &'a [u8],
     piece: usize,
-    rooms: [usize; 16],
+    lengths: [usize; 16],
     pulls: usize,
 }
 
@@ -22,13 +22,13 @@ impl<'a> Source for Metered<'a> {
 
     ghost failed = { λ _. 0 };
 
-    fn pull(&mut self, room: &mut [u8]) -> Result<usize, ReadFault> {
-        if let Some(place) = self.rooms.get_mut(self.pulls) {
-            *place = room.len();
+    fn pull(&mut self, buffer: &mut [u8]) -> Result<usize, ReadFault> {
+        if let Some(place) = self.lengths.get_mut(self.pulls) {
+            *place = buffer.len();
         }
         self.pulls = self.pulls.saturating_add(1);
-        let n = room.len().min(self.piece.min(self.bytes.len()));
-        room[..n].copy_from_slice(&self.bytes[..n]);
+        let n = buffer.len().min(self.piece.min(self.bytes.len()));
+        buffer[..n].copy_from_slice(&self.bytes[..n]);
         self.bytes = &self.bytes[n..];
         Ok(n)
     }
@@ -38,23 +38,23 @@ impl<'a> Source for Metered<'a> {
     }
 }
 
-// Compares the rooms of the pulls of a run over these queries, and what is written.
-fn rooms_are<R: Abort + AllocGlobal>(
+// Compares the lengths of the buffers of a run's pulls over these queries, and what is written.
+fn lengths_are<R: Abort + AllocGlobal>(
     rt: &R,
     queries: &[u8],
     piece: usize,
-    rooms: &[usize],
+    lengths: &[usize],
     written: &[u8],
 ) {
     let settings = Settings::new(false, 16, 5).expect(rt, "they are in range");
     let mut source = Metered {
         bytes: queries,
         piece,
-        rooms: [0; 16],
+        lengths: [0; 16],
         pulls: 0,
     };
-    let mut room = [0u8; 256];
-    let mut sink = SliceSink::new(&mut room, 256, None);
+    let mut buffer = [0u8; 256];
+    let mut sink = SliceSink::new(&mut buffer, 256, None);
     let outcome = run(
         rt.alloc(),
         &settings,
@@ -63,7 +63,7 @@ fn rooms_are<R: Abort + AllocGlobal>(
         &mut sink,
         u64::MAX,
     );
-    expect_eq(rt, source.rooms.get(..source.pulls), Some(rooms));
+    expect_eq(rt, source.lengths.get(..source.pulls), Some(lengths));
     expect_eq(rt, sink.written(), written);
     expect_eq(rt, outcome.fault, None);
 }
@@ -72,26 +72,26 @@ fn rooms_are<R: Abort + AllocGlobal>(
 fn a_pull_gives_what_is_left_of_the_buffer(rt: HostRuntime) -> Result<(), Fail> {
     let counted: &[u8] = b"ok 1 5\nok 2 5\n";
     let lines: &[u8] = b"count all\ncount all";
-    rooms_are(&rt, lines, 4096, &[4097, 4088], counted);
-    rooms_are(&rt, lines, 14, &[4097, 4093, 4088], counted);
-    rooms_are(&rt, lines, 10, &[4097, 4097, 4088], counted);
-    rooms_are(&rt, b"", 10, &[4097], b"");
+    lengths_are(&rt, lines, 4096, &[4097, 4088], counted);
+    lengths_are(&rt, lines, 14, &[4097, 4093, 4088], counted);
+    lengths_are(&rt, lines, 10, &[4097, 4097, 4088], counted);
+    lengths_are(&rt, b"", 10, &[4097], b"");
     // A line of the greatest length, with its line feed and without it, a byte more, and one that is far too long.
     let mut line = Vec::from_slice(rt.alloc(), b"count all")?;
     line.resize(LONGEST_LINE, b' ')?;
-    rooms_are(&rt, line.as_slice(), 4097, &[4097, 1], b"ok 1 5\n");
+    lengths_are(&rt, line.as_slice(), 4097, &[4097, 1], b"ok 1 5\n");
     line.push(b'\n')?;
-    rooms_are(&rt, line.as_slice(), 4097, &[4097, 4097], b"ok 1 5\n");
-    rooms_are(&rt, line.as_slice(), 4096, &[4097, 1, 4097], b"ok 1 5\n");
+    lengths_are(&rt, line.as_slice(), 4097, &[4097, 4097], b"ok 1 5\n");
+    lengths_are(&rt, line.as_slice(), 4096, &[4097, 1, 4097], b"ok 1 5\n");
     line.truncate(LONGEST_LINE);
     line.push(b' ')?;
     let long: &[u8] = b"error 1 Q1 line too long\n";
-    rooms_are(&rt, line.as_slice(), 4097, &[4097, 4097], long);
+    lengths_are(&rt, line.as_slice(), 4097, &[4097, 4097], long);
     line.resize(10_000, b' ')?;
-    rooms_are(&rt, line.as_slice(), 4097, &[4097, 4097, 4097, 4097], long);
+    lengths_are(&rt, line.as_slice(), 4097, &[4097, 4097, 4097, 4097], long);
     line.extend_from_slice(b"\ncount all")?;
     let then: &[u8] = b"error 1 Q1 line too long\nok 2 5\n";
-    rooms_are(&rt, line.as_slice(), 4097, &[4097, 4097, 4097, 4088], then);
+    lengths_are(&rt, line.as_slice(), 4097, &[4097, 4097, 4097, 4088], then);
     Ok(())
 }
 
@@ -109,7 +109,7 @@ fn lines_that_are_begun_take_turns(rt: HostRuntime) -> Result<(), Fail> {
     Given { turns: 4, ..given }.expect(&rt, BOXES, &comments, b"", 0, None);
     let read = Some(RunFault::Read);
     Given { turns: 3, ..given }.expect(&rt, BOXES, &comments, b"", 4, read);
-    rooms_are(&rt, &comments, 10_000, &[4097, 4000, 4000, 3903], b"");
+    lengths_are(&rt, &comments, 10_000, &[4097, 4000, 4000, 3903], b"");
     Ok(())
 }
 

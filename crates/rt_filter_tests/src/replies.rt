@@ -8,8 +8,8 @@ use rt_tree::Tree;
 use std::alloc::{AllocError, Global};
 use std::process::Abort;
 
-/// The most bytes that a sink of these tests has room for.
-const ROOM: usize = 1024;
+/// The most bytes that a sink of these tests can take.
+const CAPACITY: usize = 1024;
 
 /// The lines of a session with their replies, each under its number: each region in each order, then the other forms.
 static REPLIES: [(&str, &str); 33] = [
@@ -74,17 +74,17 @@ fn replies() -> &'static [(&'static str, &'static str)] {
     &REPLIES
 }
 
-/// How many bytes are pulled and pushed at once, what the sink has room for, and which call of it fails.
+/// How many bytes are pulled and pushed at once, how many bytes the sink can take, and which call of it fails.
 #[derive(Clone, Copy)]
 struct Devices {
     piece: usize,
-    room: usize,
+    capacity: usize,
     fails_at: Option<u64>,
 }
 
 const PLAIN: Devices = Devices {
-    piece: ROOM,
-    room: ROOM,
+    piece: CAPACITY,
+    capacity: CAPACITY,
     fails_at: None,
 };
 
@@ -98,11 +98,11 @@ impl Devices {
         written: &[u8],
         served: Served,
     ) {
-        assert!(rt; self.piece > 0 && self.room <= ROOM);
+        assert!(rt; self.piece > 0 && self.capacity <= CAPACITY);
         let frontier = Frontier::new(rt.alloc(), tree.len()).expect(rt, "there is memory");
         let mut source = SliceSource::new(queries, self.piece, None);
-        let mut room = [0u8; ROOM];
-        let mut sink = SliceSink::new(&mut room[..self.room], self.piece, self.fails_at);
+        let mut buffer = [0u8; CAPACITY];
+        let mut sink = SliceSink::new(&mut buffer[..self.capacity], self.piece, self.fails_at);
         let ended = serve(tree, frontier, &mut source, &mut sink, u64::MAX);
         expect_eq(rt, sink.written(), written);
         expect_eq(rt, ended, served);
@@ -121,7 +121,7 @@ fn replies_in_every_form(rt: HostRuntime) {
         bad: true,
         fault: None,
     };
-    for piece in [1, 3, ROOM] {
+    for piece in [1, 3, CAPACITY] {
         let devices = Devices { piece, ..PLAIN };
         devices.expect(&rt, &tree, &queries, &replies, served);
     }
@@ -168,12 +168,12 @@ fn ending(reply: &[u8], failed: bool) -> Served {
 /// Lines, the most bytes that a push takes, and how many bytes are out before each push and, last, before the flush.
 static PUSHES: [(&str, usize, &[usize]); 7] = [
     ("find window 0 10 0 10", 3, &[0, 3, 4, 7, 8, 11, 14, 15]),
-    ("find window 0 10 0 10", ROOM, &[0, 4, 8, 15]),
+    ("find window 0 10 0 10", CAPACITY, &[0, 4, 8, 15]),
     ("count all", 3, &[0, 3, 6, 8]),
     ("levels", 3, &[0, 3, 4, 7, 8, 11, 12, 15, 16, 19, 22, 24]),
-    ("levels", ROOM, &[0, 4, 8, 12, 16, 24]),
+    ("levels", CAPACITY, &[0, 4, 8, 12, 16, 24]),
     ("find all first", 24, &[0, 24, 25]),
-    ("", ROOM, &[0]),
+    ("", CAPACITY, &[0]),
 ];
 
 fn pushes() -> &'static [(&'static str, usize, &'static [usize])] {
@@ -243,21 +243,21 @@ fn expect_outs<R: Abort + AllocGlobal>(
 }
 
 #[test]
-fn room_that_runs_out_ends_the_reply(rt: HostRuntime) {
+fn a_full_sink_ends_the_reply(rt: HostRuntime) {
     let tree = pack(&rt, rt.alloc());
     for (before, (text, reply)) in replies().iter().enumerate() {
         let queries = numbered(rt.alloc(), before, text).expect(&rt, "there is memory");
-        expect_short_rooms(&rt, &tree, &queries, reply.as_bytes());
+        expect_full_sinks(&rt, &tree, &queries, reply.as_bytes());
     }
 }
 
-fn expect_short_rooms<R: Abort + AllocGlobal>(rt: &R, tree: &Tree, queries: &[u8], reply: &[u8]) {
-    for room in 0..reply.len() {
+fn expect_full_sinks<R: Abort + AllocGlobal>(rt: &R, tree: &Tree, queries: &[u8], reply: &[u8]) {
+    for capacity in 0..reply.len() {
         let devices = Devices {
-            room,
+            capacity,
             piece: 3,
             ..PLAIN
         };
-        devices.expect(rt, tree, queries, &reply[..room], ending(reply, true));
+        devices.expect(rt, tree, queries, &reply[..capacity], ending(reply, true));
     }
 }

@@ -21,8 +21,8 @@ fn named(alloc: Global, words: &[&str]) -> Result<Vec<Name>, Fail> {
 // Runs over std's readers and writer, and compares what is written.
 fn expect_found(rt: &(impl Abort + AllocGlobal), settings: &Settings) {
     let mut source = ReadSource::new(FIND);
-    let mut room = [0u8; 15];
-    let mut sink = WriteSink::new(&mut room[..]);
+    let mut buffer = [0u8; 15];
+    let mut sink = WriteSink::new(&mut buffer[..]);
     let outcome = run(rt.alloc(), settings, BOXES, &mut source, &mut sink, 2);
     let well = Outcome {
         status: 0,
@@ -30,7 +30,7 @@ fn expect_found(rt: &(impl Abort + AllocGlobal), settings: &Settings) {
     };
     expect_eq(rt, outcome, well);
     expect_eq(rt, (source.failures(), sink.failures()), (0, 0));
-    expect_eq(rt, &room[..], FOUND);
+    expect_eq(rt, &buffer[..], FOUND);
 }
 
 #[test]
@@ -73,8 +73,8 @@ fn a_slice_fails_at_the_call_that_is_named(rt: HostRuntime) {
         let mut source = SliceSource::new(b"ab", 1, fail_at);
         expect_eq(&rt, source.pull(&mut [0; 2]), pulled);
         expect_eq(&rt, source.failures(), u64::from(pulled.is_err()));
-        let mut room = [0u8; 2];
-        let mut sink = SliceSink::new(&mut room, 1, fail_at);
+        let mut buffer = [0u8; 2];
+        let mut sink = SliceSink::new(&mut buffer, 1, fail_at);
         expect_eq(&rt, sink.push(b"ab"), pushed);
         expect_eq(&rt, sink.failures(), u64::from(pushed.is_err()));
         expect_eq(&rt, sink.written().len(), usize::from(pushed.is_ok()));

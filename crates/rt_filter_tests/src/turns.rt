@@ -88,14 +88,14 @@ impl<'a> Source for Pieces<'a> {
 
     ghost failed = { λ _. 0 };
 
-    fn pull(&mut self, room: &mut [u8]) -> Result<usize, ReadFault> {
+    fn pull(&mut self, buffer: &mut [u8]) -> Result<usize, ReadFault> {
         self.calls.add(b'p');
         let Some(piece) = self.pieces.get(self.at) else {
             return Ok(0);
         };
         self.at = self.at.saturating_add(1);
-        let n = room.len().min(piece.len());
-        room[..n].copy_from_slice(&piece[..n]);
+        let n = buffer.len().min(piece.len());
+        buffer[..n].copy_from_slice(&piece[..n]);
         Ok(n)
     }
 

@@ -8,7 +8,7 @@ use std::marker::Model;
 
 /// A borrowed geometry with the number of its checks: the only way in which a search asks a geometry.
 ///
-/// It can't be cloned, no call hands the geometry out, and what it was moved out of has no room for a check, so that
+/// It can't be cloned, no call hands the geometry out, and what it was moved out of can't check any more, so that
 /// the number counts all the checks that were made through it.
 pub struct Counted<'a, G: Geometry> {
     geometry: &'a G,
@@ -45,7 +45,7 @@ impl<'a, G: Geometry> Counted<'a, G> {
     pub fn check(&mut self, info: &Info) -> Verdict
         requires honest { IsHonest (G.meaning self.old.geometry).accepts info.now }
         requires layers { ShowsLayers info.now }
-        requires room { self.old.asked < 2 ^ 64 - 1 }
+        requires count { self.old.asked < 2 ^ 64 - 1 }
         ensures verdict { result ≡ (G.meaning self.old.geometry).verdict info.now }
         ensures geometry { self.new.geometry ≡ self.old.geometry }
         ensures asked { self.new.asked ≡ self.old.asked + 1 }
@@ -54,12 +54,12 @@ impl<'a, G: Geometry> Counted<'a, G> {
         self.geometry.check(info)
     }
 
-    /// Moves it out. What is left has no room for a check, until it is assigned again.
+    /// Moves it out. What is left can't check any more, until it is assigned again.
     pub fn take(&mut self) -> Counted<'a, G>
         ensures geometry { result.geometry ≡ self.old.geometry }
         ensures asked { result.asked ≡ self.old.asked }
         ensures left { self.new.geometry ≡ self.old.geometry }
-        ensures no_room { self.new.asked ≡ 2 ^ 64 - 1 }
+        ensures full { self.new.asked ≡ 2 ^ 64 - 1 }
     {
         let asked = self.asked;
         self.asked = u64::MAX;

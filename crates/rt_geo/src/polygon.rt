@@ -102,8 +102,8 @@ impl Polygon {
             return Ok(of_convex(points));
         }
         // (in part of an array, so that the compiler knows that it is short)
-        let mut room = [points[0]; MOST_VERTICES];
-        let reversed = &mut room[..points.len()];
+        let mut buffer = [points[0]; MOST_VERTICES];
+        let reversed = &mut buffer[..points.len()];
         reversed.copy_from_slice(points);
         reversed.reverse();
         if is_strictly_convex(reversed) {

@@ -49,7 +49,7 @@ pub record IsHit (gathers : Bool) (meaning : Meaning) (t : Packed) (limit : Opti
   pub gathered : gathers ≡ true
   pub unscored : IsUnscored (estimate_of meaning)
   pub some : limit ≢ Some 0
-  pub room : length t.entries ≤ hits.capacity
+  pub space : length t.entries ≤ hits.capacity
   pub same : hits.capacity ≡ queue.capacity
   pub none : queue.items ≡ []
   pub is_sorted : hits.is_sorted ≡ true
@@ -64,9 +64,9 @@ module _ {gathers : Bool} {meaning : Meaning} {t : Packed} {limit : Option ℕ} 
       let gathered = now.gathered in
       let sorted = now.is_sorted in
       record {
-        same_room = now.same;
+        same_capacity = now.same;
         giving = λ h. absurd (grind arith);
-        gathering = λ _. record { unscored = now.unscored; some = now.some; room = now.room; none_waits = now.none; before = λ h. absurd (grind arith); after = λ _. new };
+        gathering = λ _. record { unscored = now.unscored; some = now.some; space = now.space; none_waits = now.none; before = λ h. absurd (grind arith); after = λ _. new };
       }
 
   -- a hit was taken out, or none was left

@@ -99,7 +99,7 @@ module _ {gathers : Bool} {meaning : Meaning} {t : Packed} {limit : Option ℕ} 
   -- ---- with a queue
 
   module _ (queued : gathers ≡ false) (same : hits.capacity ≡ queue.capacity)
-      (room : queue.capacity ≡ old_queue.capacity) where
+      (space : queue.capacity ≡ old_queue.capacity) where
     pub give : {a : Answer} → queue.needed ≡ one_less old_queue.needed → IsFound meaning t opened' asked' queue.needed
         (drop given (answers t.entries meaning None)) a queue.items
         → IsGiven gathers meaning t limit given opened' asked' a queue hits
@@ -110,7 +110,7 @@ module _ {gathers : Bool} {meaning : Meaning} {t : Packed} {limit : Option ℕ} 
         let now : IsGiving meaning t limit (suc given) opened' asked' queue.capacity queue.needed queue.items =
         search (rules, drop_step, next_in_limit, next_still) in
         record {
-          going = record { same_room = same; giving = λ _. rw (add-one given) now; gathering = λ h. absurd (grind arith) };
+          going = record { same_capacity = same; giving = λ _. rw (add-one given) now; gathering = λ h. absurd (grind arith) };
           answer = rw (add-one given) (search (rules, limited_step));
           worked = rw (add-one given) worked;
           few = few;

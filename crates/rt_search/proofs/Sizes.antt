@@ -90,7 +90,7 @@ module _ (opens : Verdict → Bool) (cost : Node → ℕ) (meaning : Meaning) (t
       let whole = work_cons opens cost meaning t (item_at s (place.Node n)) xs in
       grind (arith, open')
 
--- ---- room
+-- ---- capacity
 
 module _ (meaning : Meaning) (t : Packed) where
   pub held_cons : (x : Item) (xs : List Item) → held t (x ∷ xs) ≡ size_at t x.place + held t xs

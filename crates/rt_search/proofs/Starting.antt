@@ -32,7 +32,7 @@ module _ (meaning : Meaning) (t : Packed) (sound : IsSound t)
     pub started : (limit : Option ℕ) (capacity : ℕ) (needed : Option ℕ) (items : List Item)
         → length t.entries ≤ capacity → IfSome needed (λ n. limit ≡ Some n) → IsEnough needed items (root_items t)
         → IsGiving meaning t limit 0 0 0 capacity needed items
-    started limit capacity needed items room first enough = record {
+    started limit capacity needed items space first enough = record {
       state = record {
         all = root_items t;
         state =
@@ -40,7 +40,7 @@ module _ (meaning : Meaning) (t : Packed) (sound : IsSound t)
             (λ h. grind arith) (λ h. let some = nat_eq_false h in record {
               tree = sound;
               sound = grind arith;
-              room = grind (arith, length_permutation, sum_by-cons, size_under);
+              space = grind (arith, length_permutation, sum_by-cons, size_under);
               opening = root_course one_node some;
               asking = root_course its_children some;
             });
@@ -48,7 +48,7 @@ module _ (meaning : Meaning) (t : Packed) (sound : IsSound t)
         follows = grind (arith, empty_answers, eqb-true, nat_eq_false, put_all-nil, answer_order, among-IsPermutation);
         enough = enough;
       };
-      room = room;
+      space = space;
       in_limit = grind arith;
       still = grind arith;
       stopped = λ e. subst (λ l. HasWorked meaning t l 0 0) (sym e) (record { in_nodes = refl; in_checks = refl });

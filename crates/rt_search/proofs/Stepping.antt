@@ -87,7 +87,7 @@ module _ {meaning : Meaning} (law : IsLawful meaning) (t : Packed) where
         state = record {
           tree = k.state.tree;
           sound = sound;
-          room = omega (arith, held_cons meaning t x xs, k.state.room);
+          space = omega (arith, held_cons meaning t x xs, k.state.space);
           opening = course one_node opened k.state.opening;
           asking = course its_children asked k.state.asking;
         };

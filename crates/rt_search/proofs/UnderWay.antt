@@ -27,7 +27,7 @@ still_more w w' same more = λ e. more (sym same ∙ e)
 pub few_wait : (meaning : Meaning) (t : Packed)
     {opened asked : ℕ} {needed : Option ℕ} {to_come : List Answer} {items : List Item}
     → IsUnderWay meaning t opened asked needed to_come items → length items ≤ length t.entries
-few_wait meaning t u = omega (arith, u.enough.few, length_le_held meaning t u.all u.state.sound, u.state.room)
+few_wait meaning t u = omega (arith, u.enough.few, length_le_held meaning t u.all u.state.sound, u.state.space)
 
 -- ---- what was taken out of a queue
 
@@ -61,7 +61,7 @@ module _ {meaning : Meaning} (law : IsLawful meaning) (t : Packed) where
       (xs : List Item) : Type 0 where
     pub tree : IsSound t
     pub node : IsOpenable t meaning n.number.number (verdict_on s n)
-    pub room : length xs + (node_at t n.number.number).count ≤ length t.entries
+    pub space : length xs + (node_at t n.number.number).count ≤ length t.entries
     pub opened_low : opened + 1 ≤ 2 ^ 32
     pub asked_low : asked + (node_at t n.number.number).count ≤ 2 ^ 32
     pub next : (new : List Item) → IsEnough needed new (join_children meaning t s n xs)
@@ -84,7 +84,7 @@ module _ {meaning : Meaning} (law : IsLawful meaning) (t : Packed) where
       record {
         tree = state.tree;
         node = state.sound.0;
-        room = omega (arith, held_cons meaning t x ys, state.room);
+        space = omega (arith, held_cons meaning t x ys, state.space);
         opened_low = omega (arith, work_le (is_reached None) one_node meaning t (one_is_fair t) state.tree);
         asked_low = omega (arith, work_le (is_reached None) its_children meaning t (count_is_fair t) state.tree);
         next = λ new h. record {
@@ -101,7 +101,7 @@ module _ {meaning : Meaning} (law : IsLawful meaning) (t : Packed) where
       (xs : List Item) : Type 0 where
     pub tree : IsSound t
     pub node : IsOpenable t meaning n.number.number (verdict_on s n)
-    pub room : length xs + (node_at t n.number.number).size ≤ length t.entries
+    pub space : length xs + (node_at t n.number.number).size ≤ length t.entries
     pub opened_low : opened + work_under (is_reached None) one_node meaning t (verdict_on s n) n.number.number ≤ 2 ^ 32
     pub asked_low : asked + work_under (is_reached None) its_children meaning t (verdict_on s n) n.number.number ≤ 2 ^ 32
     pub some : 0 < work_under (is_reached None) one_node meaning t (verdict_on s n) n.number.number
@@ -130,7 +130,7 @@ module _ {meaning : Meaning} (law : IsLawful meaning) (t : Packed) where
       record {
         tree = state.tree;
         node = state.sound.0;
-        room = omega (arith, held_cons meaning t x ys, state.room);
+        space = omega (arith, held_cons meaning t x ys, state.space);
         opened_low = omega (arith, work_le (is_reached None) one_node meaning t (one_is_fair t) state.tree, opens one_node, state.opening.in_all);
         asked_low = omega (arith, work_le (is_reached None) its_children meaning t (count_is_fair t) state.tree, opens its_children, state.asking.in_all);
         some = grind arith;
@@ -189,7 +189,7 @@ module _ {meaning : Meaning} (law : IsLawful meaning) (t : Packed) where
         first = sym u.follows ∙ ap (remaining t meaning) k.1.0 ∙ take_entry meaning t a.0 a.1 ys up.0 sound;
         state = record {
           all = ys;
-          state = record { tree = state.tree; sound = sound; room = omega (arith, held_cons meaning t x ys, state.room); opening = o.0; asking = b.0 };
+          state = record { tree = state.tree; sound = sound; space = omega (arith, held_cons meaning t x ys, state.space); opening = o.0; asking = b.0 };
           rising = up.1;
           follows = refl;
           enough = k.1.1;

@@ -30,10 +30,10 @@ taken-append takes a b c [] ys h k = subst (λ s. HasTaken takes s ys c) h k
 taken-append takes a b c (x ∷ xs) ys h k = (h.0, (h.1.0, taken-append takes h.0 b c xs ys h.1.1 k))
 
 -- they fill no more than their places
-pub taken_room : {S : Type 0} (takes : S → Answer → S → Type 0) (room : S → ℕ) → IsFilling takes room
-    → (old new : S) (xs : List Answer) → HasTaken takes old xs new → room old ≤ room new + length xs
-taken_room takes room fills old new [] h = rw h (omega arith)
-taken_room takes room fills old new (x ∷ xs) h = grind (arith, taken_room takes room fills h.0 new xs h.1.1)
+pub taken_space : {S : Type 0} (takes : S → Answer → S → Type 0) (space : S → ℕ) → IsFilling takes space
+    → (old new : S) (xs : List Answer) → HasTaken takes old xs new → space old ≤ space new + length xs
+taken_space takes space fills old new [] h = rw h (omega arith)
+taken_space takes space fills old new (x ∷ xs) h = grind (arith, taken_space takes space fills h.0 new xs h.1.1)
 
 -- answers that are taken in some order
 pub all_taken : {S : Type 0} (takes : S → Answer → S → Type 0) (a b : S) (xs : List Answer)
@@ -49,10 +49,10 @@ pub all_taken-moved : {S : Type 0} (takes : S → Answer → S → Type 0) (a b 
     → IsPermutation xs ys → HasTakenAll takes a xs b → HasTakenAll takes a ys b
 all_taken-moved takes a b xs ys same h = (h.0, (IsPermutation-trans _ _ _ h.1.0 same, h.1.1))
 
-pub all_taken_room : {S : Type 0} (takes : S → Answer → S → Type 0) (room : S → ℕ) → IsFilling takes room
-    → (old new : S) (xs : List Answer) → HasTakenAll takes old xs new → room old ≤ room new + length xs
-all_taken_room takes room fills old new xs h =
-    omega (arith, taken_room takes room fills old new h.0 h.1.1, length_permutation h.0 xs h.1.0)
+pub all_taken_space : {S : Type 0} (takes : S → Answer → S → Type 0) (space : S → ℕ) → IsFilling takes space
+    → (old new : S) (xs : List Answer) → HasTakenAll takes old xs new → space old ≤ space new + length xs
+all_taken_space takes space fills old new xs h =
+    omega (arith, taken_space takes space fills old new h.0 h.1.1, length_permutation h.0 xs h.1.0)
 
 -- ---- two lists in turn
 
@@ -231,10 +231,10 @@ module _ {meaning : Meaning} (law : IsLawful meaning) where
                   omega (arith, before, step, few_under meaning t k tree, sum_more meaning t v number opened.tree high (λ k. k.size) j (omega arith))
             ]
 
-        -- one that is closed has room
-        pub child_fits : (i : ℕ) → i < (node_at t number).count → (room room' : ℕ) → (node_at t number).size ≤ room
-            → room ≤ room' + length (closed_upto i) → (node_at t ((node_at t number).first + i)).size ≤ room'
-        child_fits i lt room room' fits taken =
+        -- one that is closed fits
+        pub child_fits : (i : ℕ) → i < (node_at t number).count → (space space' : ℕ) → (node_at t number).size ≤ space
+            → space ≤ space' + length (closed_upto i) → (node_at t ((node_at t number).first + i)).size ≤ space'
+        child_fits i lt space space' fits taken =
             let sizes = sum_more meaning t v number opened.tree high (λ k. k.size) i lt in
             let size = (inner_at t (height_at t number) (node_at t number) opened.tree high).1.size in
             let part = sum_by-take-drop (λ (k : Node). k.size) (child_nodes t (node_at t number)) (suc i) in
@@ -274,9 +274,9 @@ module _ {meaning : Meaning} (law : IsLawful meaning) where
         within cost i lt = grind (arith, sum_by-take-drop, height_suc)
 
         -- what it requires, and what it leads to
-        pub record CanOpen (begun asked room from place k : ℕ) (w : Verdict) : Type 0 where
+        pub record CanOpen (begun asked space from place k : ℕ) (w : Verdict) : Type 0 where
           pub node : IsOpenable t meaning k w
-          pub room_is : (node_at t k).size ≤ room
+          pub space_is : (node_at t k).size ≤ space
           pub opened_few : begun + work_under opens one_node meaning t w k ≤ 2 ^ 32
           pub asked_few : asked + work_under opens its_children meaning t w k ≤ 2 ^ 32
           pub lower : (node_at t k).level < (node_at t number).level
@@ -286,15 +286,15 @@ module _ {meaning : Meaning} (law : IsLawful meaning) where
 
         pub can_open : {has : Bool} {from place k : ℕ} {w : Verdict} {new : Waiting}
             → IsNext has opens verdict from (node_at t number).count place w new → k ≡ (node_at t number).first + place
-            → (room room' room'' : ℕ) → (node_at t number).size ≤ room
-            → room ≤ room' + length (closed_upto (node_at t number).count)
-            → room' ≤ room'' + length (open_upto from)
+            → (space space' space'' : ℕ) → (node_at t number).size ≤ space
+            → space ≤ space' + length (closed_upto (node_at t number).count)
+            → space' ≤ space'' + length (open_upto from)
             → (begun begun' asked asked' : ℕ) → begun' ≡ begun + 1 + work_upto opens one_node from
             → asked' ≡ asked + (node_at t number).count + work_upto opens its_children from
             → begun + work_under opens one_node meaning t v number ≤ 2 ^ 32
             → asked + work_under opens its_children meaning t v number ≤ 2 ^ 32
-            → CanOpen begun' asked' room'' from place k w
-        can_open {from = from} {place} {k} {w} next at room room' room'' fits closed taken begun begun' asked asked' b a begun_fits asked_fits =
+            → CanOpen begun' asked' space'' from place k w
+        can_open {from = from} {place} {k} {w} next at space space' space'' fits closed taken begun begun' asked asked' b a begun_fits asked_fits =
             let n = node_at t number in
             let lt = next.high in
             let on : from + (place - from) ≡ place = omega (arith, next.low) in
@@ -314,7 +314,7 @@ module _ {meaning : Meaning} (law : IsLawful meaning) where
             )) in
             record {
               node = openable lt at next.reported;
-              room_is =
+              space_is =
                   let some = closed_few (suc place) n.count (omega (arith, lt)) (omega arith) in
                   let none_more : closed_upto (suc place) ≡ closed_upto place = rw next.opened (append-nil (closed_upto place)) in
                   let parts = few_parted place (omega (arith, lt)) in

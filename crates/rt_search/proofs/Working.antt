@@ -1,4 +1,4 @@
--- What opening a node means for the work to come and for the room that is used.
+-- What opening a node means for the work to come and for the capacity that is used.
 use Rattle.std.proofs.Common.{◌≡◌, ◌<◌, ◌≤◌, ◌+◌, ◌-◌, ℕ, zero, suc, Bool, false, cond, List, [], ◌∷◌, length, take}
 use Rattle.std.proofs.{Common.{refl, ◌∙◌, ap, arith, add-one}, lemmas.List.Sums.{sum_by-append}}
 use Rattle.std.specs.List.{sum_by}

@@ -31,7 +31,7 @@ place_cmp (Entry i) (Entry j) = int_cmp i j
 abbrev pub item_cmp : Item → Item → Ordering
 item_cmp = then_cmp (on (λ x. x.score) nat_cmp) (on (λ x. x.place) place_cmp)
 
--- what waits, in the order in which it is taken out, and how many items have room
+-- what waits, in the order in which it is taken out, and how many items fit
 pub record Waiting : Type 0 where
   pub items : List Item
   pub capacity : ℕ

@@ -114,21 +114,21 @@ narrow nodes entries = put_all item_cmp (in_order node_item nodes) entries
 abbrev pub queued : (nodes : List (Reverse ℕ)) → (entries wide : List Item) → List Item
 queued nodes entries wide = put_all item_cmp wide (narrow nodes entries)
 
--- each has room for so many, and they hold together no more
+-- each has capacity for so many, and together they hold no more
 pub record IsQueue (nodes : Pooled) (entries wide : Waiting) (capacity : ℕ) : Type 0 where
-  pub nodes_room : nodes.capacity ≡ capacity
-  pub entries_room : entries.capacity ≡ capacity
-  pub wide_room : wide.capacity ≡ capacity
+  pub nodes_capacity : nodes.capacity ≡ capacity
+  pub entries_capacity : entries.capacity ≡ capacity
+  pub wide_capacity : wide.capacity ≡ capacity
   pub few : length (queued (keys_in nodes) entries.items wide.items) ≤ capacity
   pub low : capacity < 2 ^ 32
   pub high : AllByRecursion (λ x. 2 ^ 64 ≤ x.score) wide.items
 
 -- ---- in a heap
 
--- it is a heap, has room for so many items and holds no more
+-- it is a heap, has capacity for so many items and holds no more
 pub record IsKept {X A : Type 0} (cmp : X → X → Ordering) (heap : BinaryHeap X A) (capacity : ℕ) : Type 0 where
   pub ordered : IsHeap cmp (heap_items heap)
-  pub room : capacity ≤ heap_capacity heap
+  pub space : capacity ≤ heap_capacity heap
   pub counted : heap_len heap ≡ length (heap_items heap)
   pub few : length (heap_items heap) ≤ capacity
 
@@ -163,14 +163,14 @@ pub record IsPutInOrder {X A : Type 0} (cmp : X → X → Ordering) (old new : V
   pub same : IsPermutation old.items new.items
   pub capacity : vec_capacity new ≡ vec_capacity old
 
--- sorted, or not; each has room for so many, and they hold together no more
+-- sorted, or not; each has capacity for so many, and together they hold no more
 pub record HasHits {A B : Type 0} (ids : Vec (Reverse ℤ) A) (keys : Vec (Reverse ℕ) B) (wide : Waiting)
     (is_sorted : Bool) (capacity : ℕ) : Type 0 where
   pub ids_sorted : is_sorted ≡ true → IsSorted id_cmp ids.items
   pub keys_sorted : is_sorted ≡ true → IsSorted key_cmp keys.items
-  pub ids_room : capacity ≤ vec_capacity ids
-  pub keys_room : capacity ≤ vec_capacity keys
-  pub wide_room : wide.capacity ≡ capacity
+  pub ids_capacity : capacity ≤ vec_capacity ids
+  pub keys_capacity : capacity ≤ vec_capacity keys
+  pub wide_capacity : wide.capacity ≡ capacity
   pub few : length (hits_in ids.items keys.items wide.items) ≤ capacity
   pub above : AllByRecursion (λ x. 0 < x.score) (in_order entry_item keys.items)
   pub high : AllByRecursion (λ x. 2 ^ 64 ≤ x.score) wide.items

@@ -9,7 +9,7 @@ use Rattle.std.specs.declared.cmp.Reverse.{Reverse}
 use Rattle.std.specs.declared.collections.binary_heap.BinaryHeap.{BinaryHeap}
 use Rattle.std.specs.declared.vec.Vec.{Vec}
 
--- a pool: the keys that are near and those that are far, each in any order, and how many have room
+-- a pool: the keys that are near and those that are far, each in any order, and how many fit
 pub record Pooled : Type 0 where
   pub near : List (Reverse ℕ)
   pub far : List (Reverse ℕ)
@@ -49,11 +49,11 @@ pub record IsFar (far : List (Reverse ℕ)) (edge : ℕ) (least : Option ℕ) : 
   pub high : AllByRecursion (λ k. edge < score_in k) far
   pub known : MatchOption least (far ≡ []) (λ s. HasLeastScore s far)
 
--- both have room for so many keys, and hold together no more
+-- both have capacity for so many keys, and together they hold no more
 pub record IsPool {A B : Type 0} (near : BinaryHeap (Reverse ℕ) A) (far : Vec (Reverse ℕ) B) (edge : ℕ)
     (least : Option ℕ) (capacity : ℕ) : Type 0 where
   pub inside : IsNear near edge
   pub outside : IsFar far.items edge least
-  pub near_room : capacity ≤ heap_capacity near
-  pub far_room : capacity ≤ vec_capacity far
+  pub near_capacity : capacity ≤ heap_capacity near
+  pub far_capacity : capacity ≤ vec_capacity far
   pub few : length (heap_items near ++ far.items) ≤ capacity

@@ -61,7 +61,7 @@ pub record IsOnCourse (meaning : Meaning) (cost : Node → ℕ) (t : Packed) (do
 pub record IsSearching (meaning : Meaning) (t : Packed) (opened asked : ℕ) (items : List Item) : Type 0 where
   pub tree : IsSound t
   pub sound : AllSound t meaning items
-  pub room : held t items ≤ length t.entries
+  pub space : held t items ≤ length t.entries
   pub opening : IsOnCourse meaning one_node t opened items
   pub asking : IsOnCourse meaning its_children t asked items
 
@@ -133,7 +133,7 @@ IsInLimit (Some limit) given = given ≤ limit
 pub record IsGiving (meaning : Meaning) (t : Packed)
     (limit : Option ℕ) (given opened asked capacity : ℕ) (needed : Option ℕ) (items : List Item) : Type 0 where
   pub state : IsUnderWay meaning t opened asked needed (drop given (answers t.entries meaning None)) items
-  pub room : length t.entries ≤ capacity
+  pub space : length t.entries ≤ capacity
   pub in_limit : IsInLimit limit given
   pub still : IfSome needed (λ n. limit ≡ Some (given + n))
   pub stopped : limit ≡ Some given → HasWorked meaning t limit opened asked
@@ -165,7 +165,7 @@ pub record IsGathering (meaning : Meaning) (t : Packed)
     (limit : Option ℕ) (given opened asked : ℕ) (items : List Item) (hits : Gathered) : Type 0 where
   pub unscored : IsUnscored (estimate_of meaning)
   pub some : limit ≢ Some 0
-  pub room : length t.entries ≤ hits.capacity
+  pub space : length t.entries ≤ hits.capacity
   pub none_waits : items ≡ []
   pub before : hits.is_sorted ≡ false → IsFresh given opened asked hits.items
   pub after : hits.is_sorted ≡ true → HasGathered meaning t limit given opened asked hits.items
@@ -175,7 +175,7 @@ pub record IsGathering (meaning : Meaning) (t : Packed)
 -- what holds of a search: whether it gathers was decided as it started
 pub record IsGoing (gathers : Bool) (meaning : Meaning) (t : Packed)
     (limit : Option ℕ) (given opened asked : ℕ) (queue : Limited) (hits : Gathered) : Type 0 where
-  pub same_room : hits.capacity ≡ queue.capacity
+  pub same_capacity : hits.capacity ≡ queue.capacity
   pub giving : gathers ≡ false
       → IsGiving meaning t limit given opened asked queue.capacity queue.needed queue.items
   pub gathering : gathers ≡ true → IsGathering meaning t limit given opened asked queue.items hits

@@ -58,8 +58,8 @@ HasTakenAll takes old answers new =
     (taken : List Answer) × (IsPermutation taken answers × HasTaken takes old taken new)
 
 -- each takes at most a place
-abbrev pub IsFilling : {S : Type 0} → (takes : S → Answer → S → Type 0) → (room : S → ℕ) → Type 0
-IsFilling {S} takes room = (old new : S) (a : Answer) → takes old a new → room old ≤ room new + 1
+abbrev pub IsFilling : {S : Type 0} → (takes : S → Answer → S → Type 0) → (space : S → ℕ) → Type 0
+IsFilling {S} takes space = (old new : S) (a : Answer) → takes old a new → space old ≤ space new + 1
 
 -- ---- the work
 

@@ -18,7 +18,7 @@ struct Tally(u64);
 impl Collector for u64 {
     ghost takes = { λ old _ new. new ≡ old + 1 };
 
-    ghost room = { λ n. 2 ^ 64 - 1 - n };
+    ghost space = { λ n. 2 ^ 64 - 1 - n };
 
     #[inline(always)]
     fn visit_entry(&mut self, is_accepted: bool, _score: u128, _id: i64) {
@@ -31,7 +31,7 @@ impl Collector for u64 {
 impl Collector for Tally {
     ghost takes = { λ old _ new. new.0 ≡ old.0 + 1 };
 
-    ghost room = { λ t. 2 ^ 64 - 1 - t.0 };
+    ghost space = { λ t. 2 ^ 64 - 1 - t.0 };
 
     #[inline(always)]
     fn visit_entry(&mut self, is_accepted: bool, _score: u128, _id: i64) {
@@ -91,10 +91,10 @@ pub fn count<G: Geometry>(
     ensures counted { CountsOn frontier.old.opened result.opened frontier.new.opened }
     ensures geometry { counted.new.geometry ≡ counted.old.geometry }
 {
-    frontier.rooms.queue.clear(None);
+    frontier.buffers.queue.clear(None);
     let mut tally = Tally(0);
     let opened = walk(tree, &mut tally, counted);
-    frontier.rooms.opened = frontier.rooms.opened.wrapping_add(opened);
+    frontier.buffers.opened = frontier.buffers.opened.wrapping_add(opened);
     let accepted = tally.0;
     Count { accepted, opened }
 }

@@ -31,7 +31,7 @@ fn bound_behind<T: Ord + Copy + Drop>(items: &[Reverse<T>], count: usize) -> Opt
     of_sample(items, step, at + at / 4 + 4)
 }
 
-// An element of a sample in order, at a place. Out of line, since room for a sample is filled at each call.
+// An element of a sample in order, at a place. Out of line, since memory for a sample is filled at each call.
 #[inline(never)]
 fn of_sample<T: Ord + Copy + Drop>(items: &[Reverse<T>], step: usize, place: usize) -> Option<T>
     requires enough { SAMPLE ≤ length items.now }

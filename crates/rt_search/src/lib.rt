@@ -3,7 +3,7 @@
 //! A [`Search`] gives the answers to a query one at a time, for any geometry that keeps its laws: those of a plain scan
 //! of all entries, by score and then id, cut at a limit. It opens as many nodes as the last answer's score makes
 //! necessary. [`count`] returns how many entries are accepted, and adds the size of a node that is accepted whole. [`cost`]
-//! returns how many nodes a search opens. A search works in the room of a [`Frontier`] that was made beforehand, a count
+//! returns how many nodes a search opens. A search works in the memory of a [`Frontier`] that was made beforehand, a count
 //! in none, and neither takes memory.
 //!
 //! Words: an entry is a box of the table with its id and layer, a node a subtree with its bounds. To check is to ask the

@@ -71,7 +71,7 @@ fn open_node<G: Geometry>(
     requires sound { IsSound tree.now }
     requires node { IsOpenable tree.now (G.meaning counted.old.geometry) taken.node.number.number
         (verdict_on taken.score taken.node) }
-    requires room { length queue.old.items + (node_at tree.now taken.node.number.number).count
+    requires space { length queue.old.items + (node_at tree.now taken.node.number.number).count
         ≤ queue.old.capacity }
     requires asked { counted.old.asked
         + (node_at tree.now taken.node.number.number).count ≤ 2 ^ 32 }

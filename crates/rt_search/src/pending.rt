@@ -13,7 +13,7 @@ const MOST: usize = 64;
 /// a list would have to be cleared for each node that is opened.
 ///
 /// It is seen as what it has: which places wait, which are FULLY, and the scores. Whether nodes have scores is an argument of
-/// its calls, and no field, so that the compiler leaves the room for scores out where they have none.
+/// its calls, and no field, so that the compiler leaves the memory for scores out where they have none.
 #[derive(Drop)]
 pub struct Pending {
     places: u64,

@@ -53,7 +53,7 @@ impl Pool {
 
     pub fn len(&self) -> usize
         ensures value { result ≡ length (keys_in self.now) }
-        ensures room { length (keys_in self.now) ≤ self.now.capacity }
+        ensures capacity { length (keys_in self.now) ≤ self.now.capacity }
     {
         self.near.len() + self.far.len()
     }
@@ -76,7 +76,7 @@ impl Pool {
     {
         let score = score_of(key);
         if score <= self.edge {
-            // (there is room, so no memory is taken)
+            // (there is capacity, so no memory is taken)
             let _pushed = self.near.push(Reverse(key));
             return;
         }
@@ -136,7 +136,7 @@ fn move_near(
     edge: u64,
 ) -> Option<u64>
     requires near { IsNear near.old edge }
-    requires room { length (heap_items near.old ++ far.old.items) ≤ heap_capacity near.old }
+    requires space { length (heap_items near.old ++ far.old.items) ≤ heap_capacity near.old }
     ensures near { IsNear near.new edge }
     ensures far { IsFar far.new.items edge result }
     ensures same { IsPermutation (heap_items near.old ++ far.old.items)
@@ -150,7 +150,7 @@ fn move_near(
         let score = score_of(far[at].0);
         if score <= edge {
             let key = far.swap_remove(at);
-            // (there is room, so no memory is taken)
+            // (there is capacity, so no memory is taken)
             let _pushed = near.push(key);
         } else {
             least = Some(lesser(least, score));

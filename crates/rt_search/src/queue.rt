@@ -60,7 +60,7 @@ impl Queue {
 
     pub fn len(&self) -> u32
         ensures value { result ≡ length self.now.items }
-        ensures room { length self.now.items ≤ self.now.capacity }
+        ensures capacity { length self.now.items ≤ self.now.capacity }
     {
         (self.nodes.len() + self.entries.len() + self.wide.len()) as u32
     }
@@ -110,7 +110,7 @@ impl Queue {
 impl Collector for Queue {
     ghost takes = { λ old a new. IsPut (item_of a) old new };
 
-    ghost room = { λ q. q.capacity - length q.items };
+    ghost space = { λ q. q.capacity - length q.items };
 
     #[inline(always)]
     fn visit_entry(&mut self, is_accepted: bool, score: u128, id: i64) {
@@ -174,7 +174,7 @@ fn is_node_next(nodes: &Pool, entries: &WaitingEntries) -> bool
     node <= entry
 }
 
-// Takes the least of those whose score is more, where there are no others. Inlined, so that the room for what
+// Takes the least of those whose score is more, where there are no others. Inlined, so that the memory for what
 // `Wide::take` returns is made only where that is called.
 #[inline(always)]
 fn take_wide(entries: &mut WaitingEntries, wide: &mut Wide) -> Taken

@@ -12,7 +12,7 @@ ghost use Rattle.rt_search.specs.Progress.{HasEnded, HasGathered, IsFound, IsGat
 ghost use Rattle.rt_search.specs.{Progress.{IsUnderWay}, Searching.{Searching}};
 ghost use Rattle.rt_search.specs.{Work.{CountsOn, HasWorked, opened_by_search}, declared.item.Item.{Item}};
 
-use crate::frontier::{Frontier, Rooms};
+use crate::frontier::{Buffers, Frontier};
 use crate::hits::Hits;
 use crate::opening::{open, put_root};
 use crate::queue::Queue;
@@ -31,7 +31,7 @@ const FEW: u64 = 64;
 #[derive(Drop)]
 pub struct Search<'a, G: Geometry> {
     tree: &'a Tree,
-    rooms: Box<Rooms>,
+    buffers: Box<Buffers>,
     counted: Counted<'a, G>,
     limit: Option<u64>,
     // whether all answers are found before the first is given
@@ -51,13 +51,13 @@ impl<'a, G: Geometry> Model for Search<'a, G> {
       given = s.given;
       opened = s.opened;
       asked = s.counted.asked;
-      capacity = s.rooms.value.queue.capacity;
-      opened_before = s.rooms.value.opened;
+      capacity = s.buffers.value.queue.capacity;
+      opened_before = s.buffers.value.opened;
     } };
 
-    ghost invariant = { λ s. let rooms = s.rooms.value in
+    ghost invariant = { λ s. let buffers = s.buffers.value in
         IsGoing s.gathers (G.meaning s.counted.geometry) s.tree.now s.limit s.given s.opened
-        s.counted.asked rooms.queue rooms.hits };
+        s.counted.asked buffers.queue buffers.hits };
 }
 
 impl<'a, G: Geometry> Search<'a, G> {
@@ -83,11 +83,11 @@ impl<'a, G: Geometry> Search<'a, G> {
         ensures capacity { result.capacity ≡ frontier.capacity }
         ensures opened_before { result.opened_before ≡ frontier.opened }
     {
-        let mut rooms = frontier.rooms;
-        let gathers = begin::<G>(tree, &mut rooms, limit);
+        let mut buffers = frontier.buffers;
+        let gathers = begin::<G>(tree, &mut buffers, limit);
         Search {
             tree,
-            rooms,
+            buffers,
             counted,
             limit,
             gathers,
@@ -124,7 +124,7 @@ impl<'a, G: Geometry> Search<'a, G> {
         }
         let answer = advance(
             self.tree,
-            &mut self.rooms,
+            &mut self.buffers,
             &mut self.counted,
             &mut self.opened,
             self.limit,
@@ -150,9 +150,9 @@ impl<'a, G: Geometry> Search<'a, G> {
         ensures geometry { result.1.geometry ≡ self.entry.geometry }
         ensures asked { result.1.asked ≡ self.entry.asked }
     {
-        let mut rooms = self.rooms;
-        rooms.opened = rooms.opened.wrapping_add(self.opened);
-        (Frontier { rooms }, self.counted)
+        let mut buffers = self.buffers;
+        buffers.opened = buffers.opened.wrapping_add(self.opened);
+        (Frontier { buffers }, self.counted)
     }
 }
 
@@ -172,22 +172,22 @@ fn gathers<G: Geometry>(limit: Option<u64>) -> bool
     }
 }
 
-// Gives up what the rooms held, and decides which way the search goes. The root waits, where there is a queue.
+// Gives up what the buffers held, and decides which way the search goes. The root waits, where there is a queue.
 #[inline(always)]
-fn begin<G: Geometry>(tree: &Tree, rooms: &mut Rooms, limit: Option<u64>) -> bool
-    requires capacity { length tree.now.entries ≤ rooms.old.queue.capacity }
-    requires same_room { rooms.old.hits.capacity ≡ rooms.old.queue.capacity }
+fn begin<G: Geometry>(tree: &Tree, buffers: &mut Buffers, limit: Option<u64>) -> bool
+    requires capacity { length tree.now.entries ≤ buffers.old.queue.capacity }
+    requires same_capacity { buffers.old.hits.capacity ≡ buffers.old.queue.capacity }
     ensures going { (geometry : G) → IsGoing result (G.meaning geometry) tree.now limit
-        0 0 0 rooms.new.queue rooms.new.hits }
-    ensures capacity { rooms.new.queue.capacity ≡ rooms.old.queue.capacity }
-    ensures opened { rooms.new.opened ≡ rooms.old.opened }
+        0 0 0 buffers.new.queue buffers.new.hits }
+    ensures capacity { buffers.new.queue.capacity ≡ buffers.old.queue.capacity }
+    ensures opened { buffers.new.opened ≡ buffers.old.opened }
 {
-    rooms.queue.clear(limit);
+    buffers.queue.clear(limit);
     if gathers::<G>(limit) {
-        rooms.hits.clear();
+        buffers.hits.clear();
         return true;
     }
-    put_root(tree, &mut rooms.queue);
+    put_root(tree, &mut buffers.queue);
     false
 }
 
@@ -195,7 +195,7 @@ fn begin<G: Geometry>(tree: &Tree, rooms: &mut Rooms, limit: Option<u64>) -> boo
 #[inline(always)]
 fn advance<G: Geometry>(
     tree: &Tree,
-    rooms: &mut Rooms,
+    buffers: &mut Buffers,
     counted: &mut Counted<'_, G>,
     opened: &mut u64,
     limit: Option<u64>,
@@ -203,24 +203,24 @@ fn advance<G: Geometry>(
 ) -> Option<(i64, u128)>
     requires state { let meaning = G.meaning counted.old.geometry in (given : ℕ) ×
         ((limit ≢ Some given) × IsGoing gathers meaning tree.now limit given opened.old
-        counted.old.asked rooms.old.queue rooms.old.hits) }
+        counted.old.asked buffers.old.queue buffers.old.hits) }
     ensures step { let meaning = G.meaning counted.old.geometry in (given : ℕ) →
         limit ≢ Some given → IsGoing gathers meaning tree.now limit given opened.old
-        counted.old.asked rooms.old.queue rooms.old.hits → MatchOption result
+        counted.old.asked buffers.old.queue buffers.old.hits → MatchOption result
         (HasEnded gathers meaning tree.now limit given opened.new counted.new.asked
-        rooms.new.queue rooms.new.hits)
+        buffers.new.queue buffers.new.hits)
         (λ a. IsGiven gathers meaning tree.now limit given opened.new counted.new.asked a
-        rooms.new.queue rooms.new.hits) }
-    ensures capacity { rooms.new.queue.capacity ≡ rooms.old.queue.capacity }
-    ensures opened_before { rooms.new.opened ≡ rooms.old.opened }
+        buffers.new.queue buffers.new.hits) }
+    ensures capacity { buffers.new.queue.capacity ≡ buffers.old.queue.capacity }
+    ensures opened_before { buffers.new.opened ≡ buffers.old.opened }
     ensures geometry { counted.new.geometry ≡ counted.old.geometry }
 {
     if gathers {
-        gather(tree, &mut rooms.hits, counted, opened, limit);
-        return rooms.hits.take();
+        gather(tree, &mut buffers.hits, counted, opened, limit);
+        return buffers.hits.take();
     }
     // (of its own, so that a hit stays in registers)
-    let answer = pull(tree, &mut rooms.queue, counted, opened)?;
+    let answer = pull(tree, &mut buffers.queue, counted, opened)?;
     Some(answer)
 }
 
@@ -329,18 +329,18 @@ pub fn cost<G: Geometry>(
 {
     if limit.is_none() {
         // (each node that may hold answers is opened, in whatever order)
-        let mut rooms = frontier.rooms;
+        let mut buffers = frontier.buffers;
         let mut counted = counted;
-        let Rooms {
+        let Buffers {
             queue,
             hits,
             opened: in_all,
-        } = &mut *rooms;
+        } = &mut *buffers;
         queue.clear(None);
         hits.clear();
         let opened = walk(tree, hits, &mut counted);
         *in_all = in_all.wrapping_add(opened);
-        return (opened, Frontier { rooms });
+        return (opened, Frontier { buffers });
     }
     let mut search = Search::start(tree, frontier, counted, limit);
     while search.next().is_some() {}

@@ -23,12 +23,12 @@ pub(crate) trait Collector: Sized {
     /// What it becomes with one more answer.
     ghost takes: { Self → Answer → Self → Type 0 };
 
-    /// How many more it has room for.
-    ghost room: { Self → ℕ };
+    /// How many more it can take.
+    ghost space: { Self → ℕ };
 
     /// Takes an entry where it is accepted.
     fn visit_entry(&mut self, is_accepted: bool, score: u128, id: i64)
-        requires { 0 < room self.old }
+        requires { 0 < space self.old }
         ensures { HasTaken takes self.old (answer_if is_accepted id score) self.new };
 
     /// Asks about each entry under a node of level 1, and takes those that are accepted.
@@ -41,7 +41,7 @@ pub(crate) trait Collector: Sized {
         parent: Verdict,
     )
         requires leaf { IsOpenableLeaf tree.now (G.meaning counted.old.geometry) node parent }
-        requires room { node.count ≤ Self.room self.old }
+        requires space { node.count ≤ Self.space self.old }
         requires asked { counted.old.asked + node.count ≤ 2 ^ 64 - 1 }
         ensures taken { let found = answers_among tree.now (G.meaning counted.old.geometry)
             node node.count in HasTaken Self.takes self.old found self.new }
@@ -60,7 +60,7 @@ pub(crate) trait Collector: Sized {
     }
 
     /// Each answer takes at most a place.
-    ghost fills: { IsFilling takes room };
+    ghost fills: { IsFilling takes space };
 }
 
 /// What says at each node that a walk comes to whether it is opened, and takes the entries.
@@ -71,7 +71,7 @@ pub(crate) trait Visitor: Collector {
     /// Whether the node is opened. Where it isn't, all that is accepted under it is taken: nothing where the verdict is
     /// [`Within::Not`], and so many entries as the node's size says where it is [`Within::Fully`].
     fn visit_node(&mut self, verdict: Verdict, size: u32) -> bool
-        requires { size ≤ Self.room self.old }
+        requires { size ≤ Self.space self.old }
         ensures opens { result ≡ opens verdict }
         ensures taken { (answers : List Answer) → IsKnown verdict.within size answers
             → HasTaken Self.takes self.old (if result then [] else answers) self.new };
@@ -97,13 +97,13 @@ pub fn info_under(tree: &Tree, parent: Verdict, bounds: Bounds, layers: Layers, 
 }
 
 /// Walks over a tree from its root, which isn't asked about, and returns how many nodes were opened. All that is
-/// accepted is taken, in whatever order. A visitor needs room for as many entries as there are, by what holds of each tree.
+/// accepted is taken, in whatever order. A visitor needs space for as many entries as there are, by what holds of each tree.
 pub(crate) fn walk<V: Visitor, G: Geometry>(
     tree: &Tree,
     visitor: &mut V,
     counted: &mut Counted<'_, G>,
 ) -> u64
-    requires room { IsSound tree.now → length tree.now.entries ≤ V.room visitor.old }
+    requires space { IsSound tree.now → length tree.now.entries ≤ V.space visitor.old }
     requires asked { counted.old.asked ≡ 0 }
     ensures sound { IsSound tree.now }
     ensures taken { HasTakenAll V.takes visitor.old
@@ -135,7 +135,7 @@ pub(crate) fn walk_under<V: Visitor, G: Geometry>(
 )
     requires sound { IsSound tree.now }
     requires node { IsOpenable tree.now (G.meaning counted.old.geometry) number.number parent }
-    requires room { (node_at tree.now number.number).size ≤ V.room visitor.old }
+    requires space { (node_at tree.now number.number).size ≤ V.space visitor.old }
     requires opened { opened.old + work_under V.opens one_node
         (G.meaning counted.old.geometry) tree.now parent number.number ≤ 2 ^ 32 }
     requires asked { counted.old.asked + work_under V.opens its_children
@@ -199,7 +199,7 @@ fn check_children<V: Visitor, G: Geometry>(
     requires clear { pending.old.full ≡ 0 }
     requires scores { has_scores ≡ false
         → IsUnscored (estimate_of (G.meaning counted.old.geometry)) }
-    requires room { (node_at tree.now number.number).size ≤ V.room visitor.old }
+    requires space { (node_at tree.now number.number).size ≤ V.space visitor.old }
     requires asked { counted.old.asked + (node_at tree.now number.number).count ≤ 2 ^ 32 }
     ensures waiting { let n = node_at tree.now number.number in
         let verdict = verdict_of_child (G.meaning counted.old.geometry) tree.now parent n in

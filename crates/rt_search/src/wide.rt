@@ -42,7 +42,7 @@ impl Wide {
 
     pub fn len(&self) -> usize
         ensures value { result ≡ length self.now.items }
-        ensures room { length self.now.items ≤ self.now.capacity }
+        ensures capacity { length self.now.items ≤ self.now.capacity }
         ensures rising { IsRising self.now.items }
     {
         self.heap.len()
@@ -63,7 +63,7 @@ impl Wide {
         ensures items { self.new.items ≡ put item_cmp item self.old.items }
         ensures capacity { self.new.capacity ≡ self.old.capacity }
     {
-        // (there is room, so no memory is taken)
+        // (there is capacity, so no memory is taken)
         let _pushed = self.heap.push(Reverse(item));
     }
 

@@ -242,13 +242,13 @@ fn add_search<G: Geometry>(
     limit: Option<u64>,
     digest: &mut Digest,
 ) -> Frontier {
-    assert!(rt; tree.len() <= frontier.capacity(), "there is room");
+    assert!(rt; tree.len() <= frontier.capacity(), "there is capacity");
     let mut search = Search::start(tree, frontier, Counted::new(geometry), limit);
     add_answers(&mut search, limit.unwrap_or(u64::MAX), digest);
     let reported = search.opened();
     let (frontier, counted) = search.finish();
     digest.add(counted.asked());
-    assert!(rt; tree.len() <= frontier.capacity(), "there is room");
+    assert!(rt; tree.len() <= frontier.capacity(), "there is capacity");
     let (opened, frontier) = cost(tree, frontier, Counted::new(geometry), limit);
     expect_eq(rt, opened, reported);
     frontier
@@ -278,7 +278,7 @@ fn add_geometry<G: Geometry>(
         let limit = limit.wrapping_add(1);
         frontier = add_search(rt, tree, frontier, geometry, Some(limit), digest);
     }
-    assert!(rt; tree.len() <= frontier.capacity(), "there is room");
+    assert!(rt; tree.len() <= frontier.capacity(), "there is capacity");
     let mut counted = Counted::new(geometry);
     let result = count(tree, &mut frontier, &mut counted);
     digest.add(result.accepted);

@@ -82,7 +82,7 @@ fn expect_search_over<G: Geometry>(
     limit: Option<u64>,
     want: &Want<'_>,
 )
-    requires room { length tree.now.entries ≤ frontier.capacity }
+    requires capacity { length tree.now.entries ≤ frontier.capacity }
 {
     let search = Search::start(tree, frontier, Counted::new(geometry), limit);
     expect_eq(rt, search.opened(), 0);
@@ -729,7 +729,7 @@ fn a_count_gives_up_what_a_search_left(rt: HostRuntime) {
 }
 
 fn left_by_a_search(rt: &(impl Abort + AllocGlobal), tree: &Tree) -> Frontier
-    ensures room { length tree.now.entries ≤ result.capacity }
+    ensures capacity { length tree.now.entries ≤ result.capacity }
 {
     let frontier = Frontier::new(rt.alloc(), tree.len()).expect(rt, "there is memory");
     let nearest = near(12, 12);

@@ -9,7 +9,7 @@ use rt_tree::Tree;
 
 /// The first answer, as its id and score, how many nodes were opened for it, and the frontier, for the next search.
 pub fn first_answer(tree: &Tree, frontier: Frontier) -> (Option<(i64, u128)>, u64, Frontier)
-    requires room { length tree.now.entries ≤ frontier.capacity }
+    requires capacity { length tree.now.entries ≤ frontier.capacity }
     ensures capacity { result.2.capacity ≡ frontier.capacity }
 {
     let mut search = Search::start(tree, frontier, Counted::new(&Uneven), Some(1));

@@ -18,7 +18,7 @@ pub(crate) fn push(rt: &impl Abort, table: &mut Table, id: i64, bounds: Bounds) 
 /// The same on a layer.
 pub(crate) fn push_on(rt: &impl Abort, table: &mut Table, id: i64, bounds: Bounds, layer: u8) {
     assert!(rt; layer <= 63, "it is a layer");
-    assert!(rt; table.len() < Table::MOST_ENTRIES, "there is room");
+    assert!(rt; table.len() < Table::MOST_ENTRIES, "there is capacity");
     table
         .push(Entry { id, bounds, layer })
         .expect(rt, "the id is new, and there is memory");

@@ -35,7 +35,7 @@ capped_value-more most xs i h d =
     ∙ ap (λ v. min (digits_value 10 (take i xs) * 10 + v) most) (sym (digit_value-ascii (get_or xs i 0) d))
     ∙ ap (λ v. min v most) (sym (digits_value_more 10 xs i h))
 
--- ---- digits that a u64 has room for
+-- ---- digits that a u64 can hold
 
 pub short_value-more : (xs : List ℕ) (i : ℕ) → i < length xs → is_ascii_digit (get_or xs i 0) ≡ true
     → digits_value 10 (take i xs) * 10 + (get_or xs i 0 - 48) ≡ digits_value 10 (take (i + 1) xs)

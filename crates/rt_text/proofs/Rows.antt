@@ -53,7 +53,7 @@ row_nines = refl
 abbrev pub line : List ℕ → List ℕ
 line text = text ++ 10 ∷ []
 
--- a table with no header and room for every entry
+-- a table with no header, and as many entries as any limit allows
 abbrev pub load : List ℕ → Result (List Entry) TableFault
 load bytes = table_of bytes false 16777216
 

@@ -48,7 +48,7 @@ entry_of_fields number fields =
           else if int_lt max_y min_y then Err (fault.MinAboveMax number axis.Y)
           else Ok (record { id = id; bounds = rect_of min_x max_x min_y max_y; layer = layer })
 
--- one record, judged after the entries so far: there is room for its entry, it has one, and the id is new
+-- one record, judged after the entries so far: they are fewer than the maximum, it has an entry, and the id is new
 abbrev pub judged : (max number : ℕ) → List Entry → (fields : List (List ℕ)) → Result Entry TableFault
 judged max number so_far fields = if nat_le max (length so_far) then Err (fault.TooMany number) else do
   entry ← entry_of_fields number fields

@@ -32,7 +32,7 @@ pub fn parse(line: &[u8]) -> Parsed
     parsed
 }
 
-/// Writes what [`parse`] returns to `into`, whatever stands there. A query has room for a polygon: where many lines are
+/// Writes what [`parse`] returns to `into`, whatever stands there. A query can hold a polygon: where many lines are
 /// parsed into one place, none is copied.
 pub fn parse_into(line: &[u8], into: &mut Parsed)
     ensures { into.new ≡ query_of line.now }

@@ -22,8 +22,8 @@ const LONG: u64 = 10_000_000_000_000_000;
 /// It is put together from its end, since a number's last digit is known first.
 #[derive(Debug, Drop)]
 pub struct Line {
-    // its bytes, in the back of the room
-    room: [u8; MOST_BYTES],
+    // its bytes, in the back of the buffer
+    buffer: [u8; MOST_BYTES],
     // where they start
     start: usize,
 }
@@ -33,7 +33,7 @@ impl Model for Line {
 
     ghost Value = { List ℕ };
 
-    ghost view = { λ line. drop line.start line.room };
+    ghost view = { λ line. drop line.start line.buffer };
 
     ghost invariant = { λ line. line.start ≤ 128 };
 }
@@ -45,7 +45,7 @@ impl Line {
         ensures { result ≡ 10 ∷ [] }
     {
         let mut line = Line {
-            room: [0; MOST_BYTES],
+            buffer: [0; MOST_BYTES],
             start: MOST_BYTES,
         };
         line.prepend_byte(b'\n');
@@ -58,7 +58,7 @@ impl Line {
         ensures { result ≡ text.now }
     {
         let mut line = Line {
-            room: [0; MOST_BYTES],
+            buffer: [0; MOST_BYTES],
             start: MOST_BYTES,
         };
         line.prepend(text);
@@ -79,7 +79,7 @@ impl Line {
     {
         let end = self.start;
         self.start -= text.len();
-        self.room[self.start..end].copy_from_slice(text);
+        self.buffer[self.start..end].copy_from_slice(text);
     }
 
     /// Puts one more byte before its own.
@@ -88,7 +88,7 @@ impl Line {
         ensures { self.new ≡ byte ∷ self.old }
     {
         self.start -= 1;
-        self.room[self.start] = byte;
+        self.buffer[self.start] = byte;
     }
 
     /// Puts a number before its bytes.
@@ -109,14 +109,14 @@ impl Line {
         requires { length self.old + length (decimal number) ≤ MOST_BYTES }
         ensures { self.new ≡ decimal number ++ self.old }
     {
-        self.start = write_digits(number, &mut self.room, self.start);
+        self.start = write_digits(number, &mut self.buffer, self.start);
     }
 
     // The same for a number of nine digits or more, sixteen of them side by side. Branchless in how many there are,
     // which would be mispredicted.
     #[inline(never)]
     fn prepend_long(&mut self, number: u64)
-        requires room { length self.old + 20 ≤ MOST_BYTES }
+        requires capacity { length self.old + 20 ≤ MOST_BYTES }
         requires long { SHORT ≤ number }
         ensures value { self.new ≡ decimal number ++ self.old }
         ensures few { length self.new ≤ length self.old + 20 }
@@ -133,7 +133,7 @@ impl Line {
 
     // Puts sixteen digits before its bytes.
     fn prepend_digits(&mut self, digits: u8x16)
-        requires room { length self.old + 16 ≤ MOST_BYTES }
+        requires capacity { length self.old + 16 ≤ MOST_BYTES }
         requires digits { (length digits ≡ 16) × AllBelowBase 10 digits }
         ensures { self.new ≡ map (λ digit. 48 + digit) digits ++ self.old }
     {
@@ -192,6 +192,6 @@ impl Line {
         ensures value { result.now ≡ self.now }
         ensures short { length result.now ≤ MOST_BYTES }
     {
-        &self.room[self.start..]
+        &self.buffer[self.start..]
     }
 }

@@ -8,7 +8,7 @@ ghost use Rattle.rt_text.specs.Numbers.{digits_number, number_in, number_text};
 use crate::digits::number_of;
 use std::simd::prelude::*;
 
-/// As many digits as an `i64` has room for, whichever they are and with either sign.
+/// As many digits as an `i64` can hold, whichever they are and with either sign.
 const SHORT: usize = 18;
 
 /// As many digits as are judged at once, so that a processor may take them side by side.
@@ -150,7 +150,7 @@ fn without_sign(text: &[u8]) -> &[u8]
     &text[signed as usize..]
 }
 
-// The number that a text gives, where an `i128` has room for it.
+// The number that a text gives, where an `i128` can hold it.
 fn signed(text: &[u8]) -> Result<i128, NumberFault>
     ensures { result ≡ number_in i128.MIN i128.MAX text.now }
 {

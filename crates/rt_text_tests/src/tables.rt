@@ -8,11 +8,11 @@ use std::alloc::Global;
 use std::io::{self, Read};
 use std::process::Abort;
 
-const ROOM: u32 = 16_777_216;
+const MOST_ENTRIES: u32 = 16_777_216;
 
-// What a text gives that may have so many entries, and no more than `ROOM`.
+// What a text gives that may have so many entries, and no more than `MOST_ENTRIES`.
 fn load(alloc: Global, text: &str, header: bool, max: u32) -> Result<Table, TableFault> {
-    read_table(alloc, text.as_bytes(), header, max.min(ROOM))
+    read_table(alloc, text.as_bytes(), header, max.min(MOST_ENTRIES))
 }
 
 fn sides(bounds: &Bounds) -> [i32; 4] {
@@ -274,7 +274,11 @@ fn faults_of_texts(rt: HostRuntime) {
 
 fn expect_faults(rt: &impl Abort, alloc: Global, rows: &[(&str, TableFault)]) {
     for (text, expected) in rows {
-        expect_eq(rt, load(alloc, text, false, ROOM).err(), Some(*expected));
+        expect_eq(
+            rt,
+            load(alloc, text, false, MOST_ENTRIES).err(),
+            Some(*expected),
+        );
     }
 }
 
@@ -297,7 +301,7 @@ fn past_the_ends_of_the_ranges(rt: HostRuntime) {
         };
         expect_eq(
             &rt,
-            load(rt.alloc(), text, false, ROOM).err(),
+            load(rt.alloc(), text, false, MOST_ENTRIES).err(),
             Some(expected),
         );
     }
@@ -308,7 +312,7 @@ static HEADER_AND_NUMBER_FAULTS: [(&str, bool, u32, TableFault); 9] = [
     (
         "id,minX,maxX,minY,maxY\r\n\"1\",0,10,0,10\r\n",
         false,
-        ROOM,
+        MOST_ENTRIES,
         TableFault::NotNumber {
             number: 1,
             field: 1,
@@ -318,13 +322,13 @@ static HEADER_AND_NUMBER_FAULTS: [(&str, bool, u32, TableFault); 9] = [
     (
         "1,0,0,0,0\n1,1,1,1,1\n1,2,2,2,2\n",
         true,
-        ROOM,
+        MOST_ENTRIES,
         TableFault::Repeated { number: 3 },
     ),
     (
         "id\n2,0,0,0,0\n1,0,0,0,0\n2,0,0,0,0\nx\n",
         true,
-        ROOM,
+        MOST_ENTRIES,
         TableFault::Repeated { number: 4 },
     ),
     // The record after the most entries is reported before what is wrong with it.
@@ -395,7 +399,7 @@ static LOADS: [(&str, bool, u32, Boxes, &[u8]); 15] = [
     (
         SOME_WITH_LAYER,
         false,
-        ROOM,
+        MOST_ENTRIES,
         &[
             (5, [0; 4]),
             (4, [1; 4]),
@@ -411,14 +415,14 @@ static LOADS: [(&str, bool, u32, Boxes, &[u8]); 15] = [
     (
         "id,minX,maxX,minY,maxY,layer\n1,0,0,0,0\n2,0,0,0,0,3\n",
         true,
-        ROOM,
+        MOST_ENTRIES,
         &[(1, [0; 4]), (2, [0; 4])],
         &[0, 3],
     ),
     (
         "id,minX,maxX,minY,maxY\n1,0,0,0,0,3\n2,0,0,0,0\n",
         true,
-        ROOM,
+        MOST_ENTRIES,
         &[(1, [0; 4]), (2, [0; 4])],
         &[3, 0],
     ),
@@ -427,7 +431,7 @@ static LOADS: [(&str, bool, u32, Boxes, &[u8]); 15] = [
         "-9223372036854775808,-2147483648,2147483647,-2147483648,2147483647\n\
             9223372036854775807,0,0,0,0\n",
         false,
-        ROOM,
+        MOST_ENTRIES,
         &[
             (i64::MIN, [i32::MIN, i32::MAX, i32::MIN, i32::MAX]),
             (i64::MAX, [0; 4]),
@@ -435,27 +439,45 @@ static LOADS: [(&str, bool, u32, Boxes, &[u8]); 15] = [
         &[0, 0],
     ),
     // One table that is written in many ways.
-    ("1,0,10,-3,4\n-2,5,5,5,5\n", false, ROOM, TWO_BOXES, &[0, 0]),
-    ("1,0,10,-3,4\r\n-2,5,5,5,5", false, ROOM, TWO_BOXES, &[0, 0]),
-    ("1,0,10,-3,4\r-2,5,5,5,5\r", false, ROOM, TWO_BOXES, &[0, 0]),
+    (
+        "1,0,10,-3,4\n-2,5,5,5,5\n",
+        false,
+        MOST_ENTRIES,
+        TWO_BOXES,
+        &[0, 0],
+    ),
+    (
+        "1,0,10,-3,4\r\n-2,5,5,5,5",
+        false,
+        MOST_ENTRIES,
+        TWO_BOXES,
+        &[0, 0],
+    ),
+    (
+        "1,0,10,-3,4\r-2,5,5,5,5\r",
+        false,
+        MOST_ENTRIES,
+        TWO_BOXES,
+        &[0, 0],
+    ),
     (
         "\n\n1,0,10,-3,4\n\r\n-2,5,5,5,5\n\n",
         false,
-        ROOM,
+        MOST_ENTRIES,
         TWO_BOXES,
         &[0, 0],
     ),
     (
         "\u{feff}\"1\",\"0\",\"+10\",\"-3\",\"4\"\n\"-2\",5,5,5,5\n",
         false,
-        ROOM,
+        MOST_ENTRIES,
         TWO_BOXES,
         &[0, 0],
     ),
     (
         "0001,-0,+010,-03,04\n-2,5,5,5,5\n",
         false,
-        ROOM,
+        MOST_ENTRIES,
         TWO_BOXES,
         &[0, 0],
     ),
@@ -463,7 +485,7 @@ static LOADS: [(&str, bool, u32, Boxes, &[u8]); 15] = [
     (
         "id,minX,maxX,minY,maxY\r\n\"1\",0,10,0,10\r\n",
         true,
-        ROOM,
+        MOST_ENTRIES,
         &[(1, [0, 10, 0, 10])],
         &[0],
     ),
@@ -474,9 +496,9 @@ static LOADS: [(&str, bool, u32, Boxes, &[u8]); 15] = [
         &[(1, [0; 4]), (2, [0; 4])],
         &[0, 0],
     ),
-    ("x\n", true, ROOM, &[], &[]),
-    ("", true, ROOM, &[], &[]),
-    ("", false, ROOM, &[], &[]),
+    ("x\n", true, MOST_ENTRIES, &[], &[]),
+    ("", true, MOST_ENTRIES, &[], &[]),
+    ("", false, MOST_ENTRIES, &[], &[]),
 ];
 
 #[test]
@@ -511,21 +533,21 @@ impl<'a> Read for Broken<'a> {
 static BROKEN: [(&str, u32, TableFault); 8] = [
     (
         "1,0,0,0,0\n1,0,0,0,0\n2,0",
-        ROOM,
+        MOST_ENTRIES,
         TableFault::Repeated { number: 2 },
     ),
-    ("", ROOM, TableFault::Read),
-    ("1,0,0,0,0\n", ROOM, TableFault::Read),
-    ("1,0,0,0,0\n2,0,0", ROOM, TableFault::Read),
+    ("", MOST_ENTRIES, TableFault::Read),
+    ("1,0,0,0,0\n", MOST_ENTRIES, TableFault::Read),
+    ("1,0,0,0,0\n2,0,0", MOST_ENTRIES, TableFault::Read),
     (
         "1,5,4,0,0\n2,0,0",
-        ROOM,
+        MOST_ENTRIES,
         TableFault::MinAboveMax {
             number: 1,
             axis: Axis::X,
         },
     ),
-    ("1,5,4,0,0", ROOM, TableFault::Read),
+    ("1,5,4,0,0", MOST_ENTRIES, TableFault::Read),
     // No more is read once the record after the most entries is there.
     (
         "1,0,0,0,0\n2,0,0,0,0\n",
@@ -542,7 +564,7 @@ fn failing_readers(rt: HostRuntime) {
             text: text.as_bytes(),
             at: 0,
         };
-        let loaded = read_table(rt.alloc(), reader, false, (*max).min(ROOM));
+        let loaded = read_table(rt.alloc(), reader, false, (*max).min(MOST_ENTRIES));
         expect_eq(&rt, loaded.err(), Some(*expected));
     }
 }

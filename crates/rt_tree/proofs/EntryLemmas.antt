@@ -20,7 +20,7 @@ has_id-ids_of (e ∷ entries) id = ap (λ b. int_eq id e.id || b) (has_id-ids_of
 
 IsTable-push : (entries : List Entry) (entry : Entry) → IsTable entries → has_id entries entry.id ≡ false → HasBox entry → HasLayer entry → length entries < most_entries
     → IsTable (entries ++ entry ∷ [])
-IsTable-push entries entry t new box few room = record {
+IsTable-push entries entry t new box few below = record {
   distinct = subst (IsDistinct int_eq) (sym (map-append (λ (e : Entry). e.id) entries (entry ∷ []))) (IsDistinct-push int_eq_equiv (ids_of entries) entry.id t.distinct (has_id-ids_of entries entry.id ∙ new));
   boxes = All-push HasBox entries entry t.boxes box;
   layers = All-push HasLayer entries entry t.layers few;
@@ -30,8 +30,8 @@ IsTable-push entries entry t new box few room = record {
 -- the entry stands last, and its id beside the others
 pub pushed : (loaded new_loaded : List ℤ) (later new_later : BTreeSet ℤ) (entries : List Entry) (entry : Entry) → IsIndexed loaded later entries → HasBox entry → HasLayer entry → keeps loaded later entry.id ≡ false
     → ((id : ℤ) → keeps new_loaded new_later id ≡ (keeps loaded later id || int_eq id entry.id)) → length entries < most_entries → IsIndexed new_loaded new_later (entries ++ entry ∷ [])
-pushed loaded new_loaded later new_later entries entry kept box few absent added room = record {
-  table = IsTable-push entries entry kept.table (sym (kept.ids_are entry.id) ∙ absent) box few room;
+pushed loaded new_loaded later new_later entries entry kept box few absent added below = record {
+  table = IsTable-push entries entry kept.table (sym (kept.ids_are entry.id) ∙ absent) box few below;
   ids_are = λ id. added id ∙ ap (λ b. b || int_eq id entry.id) (kept.ids_are id) ∙ sym (has_id-push entries entry id);
 }
 

@@ -70,11 +70,11 @@ course_more levels fanout size whole two some more e =
 
 -- one with more than one has another above it
 pub power_left : (left size : ℕ) → size ≤ 2 ^ left → 1 < size → 0 < left
-power_left zero size room more = absurd (omega arith)
-power_left (suc left) size room more = omega arith
+power_left zero size below more = absurd (omega arith)
+power_left (suc left) size below more = omega arith
 
 pub power_more : (left size above : ℕ) → size ≤ 2 ^ left → 0 < left → 2 * above ≤ size + 1 → above ≤ 2 ^ (left - 1)
-power_more left size above room some halves =
+power_more left size above below some halves =
     let next : left ≡ suc (left - 1) = omega arith in
     let twice : 2 ^ left ≡ 2 * 2 ^ (left - 1) = ap (λ n. 2 ^ n) next ∙ pow-succ' 2 (left - 1) in
     omega arith

@@ -140,7 +140,7 @@ module _ {X : Type 0} (items : List X) (extent : X → Extent) (size : X → ℕ
       (later : List ℕ) : Type 0 where
     pub tell : All (Tells items) later
     pub weight : sum_by size (items_at items later) < 2 ^ 32
-    pub room : length packed + length later < 2 ^ 32
+    pub numbers : length packed + length later < 2 ^ 32
     pub packed_are : packed ++ items_at items later ≡ all_packed
     pub nodes_are : nodes ++ nodes_over extent size level (length packed) (chunks fanout (items_at items later)) ≡ all_nodes
 
@@ -151,13 +151,13 @@ module _ {X : Type 0} (items : List X) (extent : X → Extent) (size : X → ℕ
       → length packed + length items < 2 ^ 32
       → IsLevelPart (packed ++ joined (groups box fanout in_order)) (nodes_over extent size level (length packed)
       (groups box fanout in_order)) packed [] keys
-  level_first box has_layers order in_order packed keys packable several are tell room =
+  level_first box has_layers order in_order packed keys packable several are tell numbers =
       let ordered = joined (groups box fanout in_order) in
       let moved = IsPermutation-trans _ _ _ packable.moved (groups-moved box in_order fanout several) in
       record {
         tell = tell;
         weight = omega (arith, ap (sum_by size) are, sum_by-IsPermutation size items ordered moved, packable.weight);
-        room = omega (arith, ap length are, length-items_at items keys tell, length_permutation items ordered moved, room);
+        numbers = omega (arith, ap length are, length-items_at items keys tell, length_permutation items ordered moved, numbers);
         packed_are = ap (λ l. packed ++ l) are;
         nodes_are = ap (nodes_over extent size level (length packed)) (ap (chunks fanout) are
             ∙ sym (groups-chunks box in_order fanout (omega arith)));
@@ -201,7 +201,7 @@ module _ {X : Type 0} (items : List X) (extent : X → Extent) (size : X → ℕ
       record {
         tell = behind;
         weight = omega (arith, part.weight, ap (sum_by size) whole, sum_by-append size group rest);
-        room = omega (arith, part.room, ap length is, length-append tile later);
+        numbers = omega (arith, part.numbers, ap length is, length-append tile later);
         packed_are = rw (packed_is, append_assoc packed group rest, ← whole) part.packed_are;
         nodes_are = rw (next, nodes_is, node_is)
             (append_assoc nodes (_ ∷ [])

@@ -1,6 +1,6 @@
 //! Entries in order, their layers in a list of their own.
 //!
-//! So a search that looks at no layers reads none, and an entry takes no more room than its id, its box and one byte.
+//! So a search that looks at no layers reads none, and an entry takes no more memory than its id, its box and one byte.
 
 ghost use Rattle.std.specs.Prelude.{◌≡◌, ◌==◌, ◌-◌, ◌<◌, ◌++◌, ◌∷◌, [], OnErr, OnOk, Some, length, map};
 ghost use Rattle.std.specs.Prelude.{List, slice_get, slice_index, take};
@@ -46,7 +46,7 @@ impl Entries {
         }
     }
 
-    /// Makes room for so many more.
+    /// Reserves capacity for so many more.
     pub(crate) fn reserve(&mut self, more: usize) -> Result<(), AllocError>
         ensures { self.new ≡ self.old }
     {

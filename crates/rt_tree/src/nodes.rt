@@ -41,13 +41,13 @@ impl Model for Nodes {
 }
 
 impl Nodes {
-    /// No nodes, and room for so many.
-    pub fn with_room(alloc: Global, room: usize) -> Result<Nodes, AllocError>
+    /// No nodes, and capacity for so many.
+    pub fn with_capacity(alloc: Global, capacity: usize) -> Result<Nodes, AllocError>
         ensures { IfOk result (λ nodes. nodes ≡ []) }
     {
         Ok(Nodes {
-            nodes: Vec::with_capacity(alloc, room)?,
-            layers: Vec::with_capacity(alloc, room)?,
+            nodes: Vec::with_capacity(alloc, capacity)?,
+            layers: Vec::with_capacity(alloc, capacity)?,
         })
     }
 

@@ -21,7 +21,7 @@ use crate::tree::Node;
 use rt_geo::{Bounds, Entry, Layers, hull};
 use std::alloc::{AllocError, Global};
 
-/// A sort key has room for so many places, one for each entry that a table may have.
+/// A sort key can hold so many places, one for each entry that a table may have.
 pub(crate) const PLACES: u64 = Table::MOST_ENTRIES as u64;
 
 // Added to the sum of two coordinates, so that it is no longer negative.
@@ -198,7 +198,7 @@ pub(crate) fn pack_level<T: Items>(
         (T.key_order (T.list items.now)) (T.in_order (T.list items.now)) (T.list items.now) }
     requires several { 2 ≤ fanout }
     requires most { fanout ≤ 64 }
-    requires room { length (T.list packed.old) + length (T.list items.now) < 2 ^ 32 }
+    requires numbers { length (T.list packed.old) + length (T.list items.now) < 2 ^ 32 }
     ensures packed { OnOk result (T.list packed.new ≡ T.list packed.old
         ++ joined (groups (box_of T.extent) fanout (T.in_order (T.list items.now)))) }
     ensures nodes { IfOk result (λ nodes. nodes
@@ -207,7 +207,7 @@ pub(crate) fn pack_level<T: Items>(
 {
     let mut keys = keys_of(alloc, items)?;
     arrange(&mut keys, items, fanout);
-    let mut nodes = Nodes::with_room(alloc, keys.len().div_ceil(fanout as usize))?;
+    let mut nodes = Nodes::with_capacity(alloc, keys.len().div_ceil(fanout as usize))?;
     for tile in keys.chunks(fanout as usize) {
         nodes.push(pack_tile(items, tile, level, packed)?)?;
     }
@@ -296,7 +296,7 @@ fn pack_tile<T: Items>(
     requires places { All (λ key. place_of key < length (T.list items.now)) tile.now }
     requires layers { All T.has_layers (T.list items.now) }
     requires weight { sum_by T.size (items_at (T.list items.now) tile.now) < 2 ^ 32 }
-    requires room { length (T.list packed.old) < 2 ^ 32 }
+    requires numbers { length (T.list packed.old) < 2 ^ 32 }
     ensures packed { OnOk result
         (T.list packed.new ≡ T.list packed.old ++ items_at (T.list items.now) tile.now) }
     ensures node { IfOk result (λ node. node ≡ node_over T.extent T.size level

@@ -246,7 +246,7 @@ fn all_nodes(alloc: Global, made: Nodes, fanout: u8) -> Result<Nodes, AllocError
     ensures { IfOk result (λ nodes. nodes ≡ nodes_from (length made) fanout 1 0 made) }
 {
     let mut made = made;
-    let mut nodes = Nodes::with_room(alloc, 0)?;
+    let mut nodes = Nodes::with_capacity(alloc, 0)?;
     let mut level = 1;
     'levels: while made.len() > 1 {
         level += 1;

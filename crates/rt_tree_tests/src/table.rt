@@ -38,7 +38,7 @@ fn entry(id: i64, sides: [i32; 4]) -> Option<Entry>
     Some(Entry { id, bounds, layer })
 }
 
-// Pushes a box, where it is one and there is room for another.
+// Pushes a box, where it is one and the table isn't full.
 fn push(table: &mut Table, id: i64, sides: [i32; 4]) -> Option<Result<(), PushFault>> {
     if table.len() >= Table::MOST_ENTRIES {
         return None;

@@ -33,7 +33,7 @@ fn bounds(sides: Sides) -> Option<Bounds> {
     Bounds::new(min_x, max_x, min_y, max_y)
 }
 
-// Pushes a box, where it is one and there is room for another.
+// Pushes a box, where it is one and the table isn't full.
 fn push(table: &mut Table, id: i64, sides: Sides) -> Option<()> {
     if table.len() >= Table::MOST_ENTRIES {
         return None;

@@ -57,9 +57,9 @@ HasReply held Fact = IsSomeAnd held (λ session. Fact session.reply)
 abbrev pub IsForgotten : (old new : Option Contents) → Type 0
 IsForgotten old new = IfSome old (λ before. new ≡ Some (record before { reply = [] }))
 
--- room with the first of these bytes at its front, as many as there are and have room, and behind them as it was
-abbrev pub copied : (bytes room : List ℕ) → List ℕ
-copied bytes room = take (length room) bytes ++ drop (length bytes) room
+-- a buffer with the first of these bytes at its front, as many as there are and fit, and behind them as it was
+abbrev pub copied : (bytes buffer : List ℕ) → List ℕ
+copied bytes buffer = take (length buffer) bytes ++ drop (length bytes) buffer
 
 -- the columns that these arrays are
 abbrev pub arrays : (ids min_x max_x min_y max_y : List ℤ) → (layers : List ℕ) → Lists

@@ -38,7 +38,7 @@ HasField (NotNumber number field) = field < 2 ^ 8
 HasField (OutOfRange number field) = field < 2 ^ 8
 HasField other = ⊤
 
--- a message is in a buffer, as much of it as has room, and this is its length
+-- a message is in a buffer, as much of it as fits, and this is its length
 pub record HasMessage (cause : TableFault) (so_many : ℕ) (old new : List ℕ) : Type 0 where
   pub len : so_many ≡ length (message_of cause)
   pub bytes : new ≡ copied (message_of cause) old

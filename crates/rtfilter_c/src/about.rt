@@ -23,7 +23,7 @@ pub struct About {
     pub max_y: i32,
 }
 
-/// Writes what a session's table is, and how many boxes or nodes each level has, from the boxes up: as many as have room, and 0
+/// Writes what a session's table is, and how many boxes or nodes each level has, from the boxes up: as many as fit, and 0
 /// above the last.
 #[unsafe(no_mangle)]
 pub extern "C" fn rtfilter_engine_info(

@@ -65,29 +65,29 @@ pub(crate) fn numbers_of(fault: TableFault) -> Option<Fault>
     })
 }
 
-/// Writes what the program prints of a table with a fault, without the line feed: the first of its bytes, as many as have room.
+/// Writes what the program prints of a table with a fault, without the line feed: the first of its bytes, as many as fit.
 /// Returns its length. Where the numbers are those of no fault, it is 0, and nothing is written.
 #[unsafe(no_mangle)]
-pub extern "C" fn rtfilter_engine_fault_message(fault: &Fault, room: &mut [u8]) -> usize
+pub extern "C" fn rtfilter_engine_fault_message(fault: &Fault, buffer: &mut [u8]) -> usize
     ensures message { (cause : TableFault) → HasField cause → numbers_of cause ≡ Some fault.now
-        → HasMessage cause result room.old room.new }
+        → HasMessage cause result buffer.old buffer.new }
     ensures none { ((cause : TableFault) → numbers_of cause ≡ Some fault.now → ⊥)
-        → (result ≡ 0) × (room.new ≡ room.old) }
+        → (result ≡ 0) × (buffer.new ≡ buffer.old) }
 {
     let Some(cause) = fault_of(*fault) else {
         return 0;
     };
-    write_message(&cause, room)
+    write_message(&cause, buffer)
 }
 
 // Writes the message of a fault, and returns its length.
-fn write_message(cause: &TableFault, room: &mut [u8]) -> usize
-    ensures { HasMessage cause.now result room.old room.new }
+fn write_message(cause: &TableFault, buffer: &mut [u8]) -> usize
+    ensures { HasMessage cause.now result buffer.old buffer.new }
 {
     let line = fault_line(cause);
     let line = line.bytes();
     let message = &line[..line.len().saturating_sub(1)];
-    copy_front(message, room);
+    copy_front(message, buffer);
     message.len()
 }
 

@@ -9,13 +9,13 @@ use rt_handle::Handle;
 use std::alloc::Global;
 
 /// Answers query lines: [`OK`], [`FAULTY_LINE`] or [`NO_MEMORY`]. The reply is kept, in the place of the last one. Its length is
-/// written, and the first of its bytes, as many as have room. After [`NO_MEMORY`] it is empty.
+/// written, and the first of its bytes, as many as fit. After [`NO_MEMORY`] it is empty.
 #[unsafe(no_mangle)]
 pub extern "C" fn rtfilter_engine_ask(
     alloc: Global,
     session: &mut Handle,
     lines: &[u8],
-    room: &mut [u8],
+    buffer: &mut [u8],
     reply_len: &mut usize,
 ) -> u8
     requires open { IsSome session.old.held }
@@ -26,7 +26,7 @@ pub extern "C" fn rtfilter_engine_ask(
     ensures memory { result ≡ NO_MEMORY → HoldsNoReply session.new.held }
     ensures same { HoldsSame session.old.held session.new.held }
     ensures reply { HasReply session.new.held (λ reply.
-        (reply_len.new ≡ length reply) × (room.new ≡ copied reply room.old)) }
+        (reply_len.new ≡ length reply) × (buffer.new ≡ copied reply buffer.old)) }
     ensures codes { (result ≡ OK) ⊎ (result ≡ FAULTY_LINE) ⊎ (result ≡ NO_MEMORY) }
 {
     let mut held = session.take(alloc);
@@ -36,30 +36,30 @@ pub extern "C" fn rtfilter_engine_ask(
         Err(_) => NO_MEMORY,
     };
     let reply = held.reply();
-    copy_front(reply, room);
+    copy_front(reply, buffer);
     *reply_len = reply.len();
     session.put(held);
     code
 }
 
-/// Copies the bytes of the reply from a place on, as many as there are and have room, and returns their number.
+/// Copies the bytes of the reply from a place on, as many as there are and fit, and returns their number.
 #[unsafe(no_mangle)]
 pub extern "C" fn rtfilter_engine_reply(
     alloc: Global,
     session: &mut Handle,
     from: usize,
-    room: &mut [u8],
+    buffer: &mut [u8],
 ) -> usize
     requires open { IsSome session.old.held }
     ensures same { session.new.held ≡ session.old.held }
     ensures many { HasReply session.old.held (λ reply.
-        result ≡ min (length (drop from reply)) (length room.old)) }
+        result ≡ min (length (drop from reply)) (length buffer.old)) }
     ensures reply { HasReply session.old.held (λ reply.
-        room.new ≡ copied (drop from reply) room.old) }
+        buffer.new ≡ copied (drop from reply) buffer.old) }
 {
     let held = session.take(alloc);
     let reply = held.reply();
-    let many = copy_front(&reply[from.min(reply.len())..], room);
+    let many = copy_front(&reply[from.min(reply.len())..], buffer);
     session.put(held);
     many
 }
@@ -75,12 +75,12 @@ pub extern "C" fn rtfilter_engine_forget(alloc: Global, session: &mut Handle)
     session.put(held);
 }
 
-/// Copies the first bytes, as many as there are and have room, and returns their number.
-pub(crate) fn copy_front(bytes: &[u8], room: &mut [u8]) -> usize
-    ensures many { result ≡ min (length bytes.now) (length room.old) }
-    ensures copied { room.new ≡ copied bytes.now room.old }
+/// Copies the first bytes, as many as there are and fit, and returns their number.
+pub(crate) fn copy_front(bytes: &[u8], buffer: &mut [u8]) -> usize
+    ensures many { result ≡ min (length bytes.now) (length buffer.old) }
+    ensures copied { buffer.new ≡ copied bytes.now buffer.old }
 {
-    let many = bytes.len().min(room.len());
-    room[..many].copy_from_slice(&bytes[..many]);
+    let many = bytes.len().min(buffer.len());
+    buffer[..many].copy_from_slice(&bytes[..many]);
     many
 }

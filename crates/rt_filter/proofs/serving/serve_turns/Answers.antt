@@ -25,11 +25,11 @@ returns-in_default-answer_lines g c =
     let s = c.loop-turn.invariant.serving in
     let kept = c.loop-turn.kept in
     let buffer = c.loop-turn.buffer in
-    let room = c.pull_next.new.room in
+    let piece = c.pull_next.new.buffer in
     let long : length buffer ≡ most_pulled = search rules in
-    let fits : kept ≤ length buffer = omega (arith, long, c.loop-turn.invariant.room) in
-    let given : length room ≡ most_pulled - kept = search rules in
-    let filled = ended buffer room kept (most_pulled - kept) (omega (arith, long, c.loop-turn.invariant.room)) (omega (arith, long, c.loop-turn.invariant.room)) given in
+    let fits : kept ≤ length buffer = omega (arith, long, c.loop-turn.invariant.bound) in
+    let given : length piece ≡ most_pulled - kept = search rules in
+    let filled = ended buffer piece kept (most_pulled - kept) (omega (arith, long, c.loop-turn.invariant.bound)) (omega (arith, long, c.loop-turn.invariant.bound)) given in
     let front = front_of buffer _ (line_feed ∷ []) kept fits filled in
     let rest = rest_of buffer _ (line_feed ∷ []) kept fits filled in
     let pushed = (rw (front, rest, ended-output (loaded_tree c.args.tree.now) s.pulled) at (c.in_default-answer_lines.ensures.pushed s.pulled)) s.so in
@@ -54,11 +54,11 @@ returns-then-n-eq0 g c =
     let s = c.loop-turn.invariant.serving in
     let kept = c.loop-turn.kept in
     let buffer = c.loop-turn.buffer in
-    let room = c.pull_next.new.room in
+    let piece = c.pull_next.new.buffer in
     let long : length buffer ≡ most_pulled = search rules in
-    let fits : kept ≤ length buffer = omega (arith, long, c.loop-turn.invariant.room) in
-    let given : length room ≡ most_pulled - kept = search rules in
-    let filled = ended buffer room kept (most_pulled - kept) (omega (arith, long, c.loop-turn.invariant.room)) (omega (arith, long, c.loop-turn.invariant.room)) given in
+    let fits : kept ≤ length buffer = omega (arith, long, c.loop-turn.invariant.bound) in
+    let given : length piece ≡ most_pulled - kept = search rules in
+    let filled = ended buffer piece kept (most_pulled - kept) (omega (arith, long, c.loop-turn.invariant.bound)) (omega (arith, long, c.loop-turn.invariant.bound)) given in
     let front = front_of buffer _ (line_feed ∷ []) kept fits filled in
     let rest = rest_of buffer _ (line_feed ∷ []) kept fits filled in
     let pushed = (rw (front, rest, ended-output (loaded_tree c.args.tree.now) s.pulled) at (c.in-Ok-answer_lines.ensures.pushed s.pulled)) s.so in
@@ -83,21 +83,21 @@ returns-in_default-answered g c =
     let s = c.loop-turn.invariant.serving in
     let kept = c.loop-turn.kept in
     let buffer = c.loop-turn.buffer in
-    let room = c.pull_next.new.room in
+    let piece = c.pull_next.new.buffer in
     let long : length buffer ≡ most_pulled = search rules in
-    let fits : kept ≤ length buffer = omega (arith, long, c.loop-turn.invariant.room) in
-    let given : length room ≡ most_pulled - kept = search rules in
+    let fits : kept ≤ length buffer = omega (arith, long, c.loop-turn.invariant.bound) in
+    let given : length piece ≡ most_pulled - kept = search rules in
     let n = c.in-Ok.n in
-    let filled = pulled buffer room kept (most_pulled - kept) n fits c.in-Ok.ensures.bound in
-    let front = front_of buffer _ (take n room) kept fits filled in
-    let rest = rest_of buffer _ (take n room) kept fits filled in
+    let filled = pulled buffer piece kept (most_pulled - kept) n fits c.in-Ok.ensures.bound in
+    let front = front_of buffer _ (take n piece) kept fits filled in
+    let rest = rest_of buffer _ (take n piece) kept fits filled in
     let pushed = (rw (front, rest) at (c.in_default-answered.ensures.pushed s.pulled)) s.so in
     let bad = (rw (front, rest) at (c.in_default-answered.ensures.progress s.pulled)) s.so in
     let count : g.K.Sink.failed c.answer_lines-answered.new.sink ≡ g.K.Sink.failed c.args.sink.now + 1 = pushed.1 ∙ ap (λ n. n + 1) c.loop-turn.invariant.sink_count in
     rw (c.requires.loaded, c.requires.devices) (record {
       ending = serves_cut (loaded_tree c.args.tree.now) _ _ _ _ _ _ s (g.S.Exchange.coming c.pull_next.new.self) (g.K.Sink.written c.answer_lines-answered.new.sink)
-          c.ended-in_default-answered.result (take n c.pull_next.new.room) c.in-Ok.ensures.bytes.0
-          (omega (arith, length-take-le n room c.in-Ok.ensures.bound, c.in-Ok.ensures.bound, given)) pushed.0
+          c.ended-in_default-answered.result (take n c.pull_next.new.buffer) c.in-Ok.ensures.bytes.0
+          (omega (arith, length-take-le n piece c.in-Ok.ensures.bound, c.in-Ok.ensures.bound, given)) pushed.0
           (λ e. bad (sym c.ended-in_default-answered.ensures.bad ∙ e)) c.ended-in_default-answered.ensures.fault;
       accounts = record {
         pushes = search rules;
@@ -114,14 +114,14 @@ loop-turn-preserved g c =
     let s = c.loop-turn.invariant.serving in
     let kept = c.loop-turn.kept in
     let buffer = c.loop-turn.buffer in
-    let room = c.pull_next.new.room in
+    let piece = c.pull_next.new.buffer in
     let long : length buffer ≡ most_pulled = search rules in
-    let fits : kept ≤ length buffer = omega (arith, long, c.loop-turn.invariant.room) in
-    let given : length room ≡ most_pulled - kept = search rules in
+    let fits : kept ≤ length buffer = omega (arith, long, c.loop-turn.invariant.bound) in
+    let given : length piece ≡ most_pulled - kept = search rules in
     let n = c.in-Ok.n in
-    let filled = pulled buffer room kept (most_pulled - kept) n fits c.in-Ok.ensures.bound in
-    let front = front_of buffer _ (take n room) kept fits filled in
-    let rest = rest_of buffer _ (take n room) kept fits filled in
+    let filled = pulled buffer piece kept (most_pulled - kept) n fits c.in-Ok.ensures.bound in
+    let front = front_of buffer _ (take n piece) kept fits filled in
+    let rest = rest_of buffer _ (take n piece) kept fits filled in
     let pushed = (rw (front, rest) at (c.in-Ok-answered.ensures.pushed s.pulled)) s.so in
     let left = (rw (front, rest) at (c.in-Ok-answered.ensures.progress s.pulled)) s.so in
     record {
@@ -129,14 +129,14 @@ loop-turn-preserved g c =
       source_count = c.in-Ok.ensures.went ∙ c.loop-turn.invariant.source_count;
       sink_count = pushed.1 ∙ c.loop-turn.invariant.sink_count;
       few =
-          let many = length_pulled buffer room kept (most_pulled - kept) n fits c.in-Ok.ensures.bound in
-          omega (arith, c.in-Ok-answered.ensures.few, many, c.keep-kept.ensures.few, c.loop-turn.invariant.few, c.loop-turn.invariant.room, c.in-Ok.ensures.bound, given);
-      room = c.keep-kept.ensures.room;
+          let many = length_pulled buffer piece kept (most_pulled - kept) n fits c.in-Ok.ensures.bound in
+          omega (arith, c.in-Ok-answered.ensures.few, many, c.keep-kept.ensures.few, c.loop-turn.invariant.few, c.loop-turn.invariant.bound, c.in-Ok.ensures.bound, given);
+      bound = c.keep-kept.ensures.bound;
       pulled = pulled_more c.loop-turn._turn _ _ _ c.loop-turn.invariant.pulled c.in-Ok.ensures.counted;
-      given = consumed_more c.loop-turn._turn n c.pull_next.new.room _ _ _ c.loop-turn.invariant.given (omega (arith, c.if-n-eq0.false))
+      given = consumed_more c.loop-turn._turn n c.pull_next.new.buffer _ _ _ c.loop-turn.invariant.given (omega (arith, c.if-n-eq0.false))
           c.in-Ok.ensures.bound c.in-Ok.ensures.bytes.0;
       serving = serving_more (loaded_tree c.args.tree.now) _ _ _ _ _ _ s (g.S.Exchange.coming c.pull_next.new.self) (g.K.Sink.written c.answer_lines-answered.new.sink)
-          c.keep-kept.new.self _ (take n c.pull_next.new.room) c.in-Ok.ensures.bytes.0 (c.keep-kept.ensures.kept _ left) pushed.0;
+          c.keep-kept.new.self _ (take n c.pull_next.new.buffer) c.in-Ok.ensures.bytes.0 (c.keep-kept.ensures.kept _ left) pushed.0;
       flushed = λ e. c.in-Ok-answered.ensures.flushed (c.loop-turn.invariant.flushed e);
     }
 

@@ -10,7 +10,7 @@ invariant-loop-turn g l = record {
   source_count : g.S.Exchange.failed l.source ≡ g.S.Exchange.failed l.initial.source;
   sink_count : g.K.Sink.failed l.sink ≡ g.K.Sink.failed l.initial.sink;
   few : l.progress.lines ≤ l._turn * most_pulled;
-  room : l.kept ≤ longest_line;
+  bound : l.kept ≤ longest_line;
   pulled : PulledTimes l._turn (g.S.Exchange.pulled l.initial.source) (g.S.Exchange.pulled l.source);
   given : ConsumedAtLeast l._turn (g.S.Exchange.coming l.initial.source) (g.S.Exchange.coming l.source);
   serving : IsServing (loaded_tree l.tree) (g.S.Exchange.coming l.initial.source) (g.S.Exchange.coming l.source)

@@ -2,8 +2,8 @@ use Rattle.std.proofs.Common.{arith, rules}
 use Rattle.rt_search.proofs.{Collectors.{counts_all}, WalkWhole.{tree_count}}
 use Rattle.rt_search.proofs.counting.count.Goals as goal
 
-pub walk-opened-requires-clause-room : goal.walk-opened-requires-clause-room
-walk-opened-requires-clause-room g c sound = omega (arith, sound.table.few)
+pub walk-opened-requires-clause-space : goal.walk-opened-requires-clause-space
+walk-opened-requires-clause-space g c sound = omega (arith, sound.table.few)
 
 pub returns-clause-accepted : goal.returns-clause-accepted
 returns-clause-accepted g c =

@@ -18,7 +18,7 @@ open_node-requires g c =
     record {
       sound = can.tree;
       node = can.node;
-      room = omega (arith, can.room, c.requires.capacity);
+      space = omega (arith, can.space, c.requires.capacity);
       asked = can.asked_low;
     }
 
@@ -38,7 +38,7 @@ walk_under-requires g c =
     rw c.verdict_on-parent.ensures (record {
       sound = can.tree;
       node = can.node;
-      room = omega (arith, can.room, c.requires.capacity);
+      space = omega (arith, can.space, c.requires.capacity);
       opened = can.opened_low;
       asked = can.asked_low;
     })

@@ -32,7 +32,7 @@ check-requires g c =
     rw c.loop-i.invariant.geometry (record {
       honest = rw info question.honest;
       layers = rw info question.well_formed.layers;
-      room = search rules;
+      count = search rules;
     })
 
 pub put_node-requires : goal.put_node-requires

@@ -8,7 +8,7 @@ pub gather-requires : goal.gather-requires
 gather-requires g c =
     let gathering = c.requires.state.1.1.gathering (search rules) in
     record {
-      capacity = gathering.room;
+      capacity = gathering.space;
       asked = λ h. (gathering.before h).none_asked;
       none = λ h. (gathering.before h).none_found;
     }
@@ -16,19 +16,19 @@ gather-requires g c =
 pub returns-then-gathers-clause-step : goal.returns-then-gathers-clause-step
 returns-then-gathers-clause-step g c so_far more going =
     let gathering = going.gathering (search rules) in
-    let room = gathering.room in
-    let same = going.same_room in
+    let space = gathering.space in
+    let same = going.same_capacity in
     let e = c.gather.ensures in
     let t = c.take.ensures in
     hit (record {
       gathered = search rules;
       unscored = gathering.unscored;
       some = gathering.some;
-      room = grind arith;
+      space = grind arith;
       same = grind arith;
       none = gathering.none_waits;
       is_sorted = t.sorted;
-      all = e.state so_far c.args.rooms.now.queue.items gathering;
+      all = e.state so_far c.args.buffers.now.queue.items gathering;
     }) more c.take.result t.entries t.taken
 
 -- ---- from the queue
@@ -36,11 +36,11 @@ returns-then-gathers-clause-step g c so_far more going =
 pub pull-requires : goal.pull-requires
 pull-requires g c =
     let giving = c.requires.state.1.1.giving (search rules) in
-    record { more = search rules; capacity = giving.room; state = (_, giving.state) }
+    record { more = search rules; capacity = giving.space; state = (_, giving.state) }
 
 pub returns-in_err-answer-clause-step : goal.returns-in_err-answer-clause-step
 returns-in_err-answer-clause-step g c so_far more going =
-    let same = going.same_room in
+    let same = going.same_capacity in
     let queued : c.args.gathers ≡ false = search rules in
     let giving = going.giving queued in
     let e = c.pull.ensures in
@@ -50,7 +50,7 @@ returns-in_err-answer-clause-step g c so_far more going =
 
 pub returns-clause-step : goal.returns-clause-step
 returns-clause-step g c so_far more going =
-    let same = going.same_room in
+    let same = going.same_capacity in
     let giving = going.giving (search rules) in
     let e = c.pull.ensures in
     give going more (search rules) (grind arith) e.capacity c.in_ok-answer.ensures.needed

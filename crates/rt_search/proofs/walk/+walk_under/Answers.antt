@@ -3,7 +3,7 @@ use Rattle.std.proofs.Common.{◌≡◌, ◌+◌, [], ap, arith, not, refl, rule
 use Rattle.rt_tree.specs.Packed.{node_at}
 use Rattle.rt_search.specs.{Remaining.{height_at}, Walking.{HasTaken, answers_where}, Work.{its_children, one_node}}
 use Rattle.rt_search.proofs.{Children.{inner_at, is_high}, Pendings.{next_out, none_left}}
-use Rattle.rt_search.proofs.Walks.{all_taken-append, all_taken_room, can_open, done_taken, done_work, taken_room}
+use Rattle.rt_search.proofs.Walks.{all_taken-append, all_taken_space, can_open, done_taken, done_work, taken_space}
 use Rattle.rt_search.proofs.walk.+walk_under.Goals as goal
 
 pub loop-place-init : goal.loop-place-init
@@ -36,7 +36,7 @@ walk_under-requires g t c κs within =
     let inv = c.loop-place.invariant in
     let high = is_high c.requires.node c.node-node.ensures.value c.if-node-eq1.false in
     let takes = g.V.Collector.takes in
-    let room = g.V.Collector.room in
+    let space = g.V.Collector.space in
     let fills = g.met.V.Collector.fills in
     let own = c.take-own.ensures in
     let n = node_at c.args.tree.now c.args.number.number in
@@ -49,9 +49,9 @@ walk_under-requires g t c κs within =
     let at : c.new-number.result.number ≡ (node_at tree c.args.number.number).first + c.in-Some.place =
     omega (arith, c.new-number.ensures, first) in
     let can = can_open law c.requires.sound (search rules) c.requires.node high g.V.Visitor.opens next at _ _
-    (room c.loop-place.visitor) c.requires.room
-    (taken_room takes room fills c.args.visitor.now c.check_children.new.visitor _ closed)
-    (all_taken_room takes room fills c.check_children.new.visitor c.loop-place.visitor _ inv.taken)
+    (space c.loop-place.visitor) c.requires.space
+    (taken_space takes space fills c.args.visitor.now c.check_children.new.visitor _ closed)
+    (all_taken_space takes space fills c.check_children.new.visitor c.loop-place.visitor _ inv.taken)
     c.args.opened.now c.loop-place.opened c.args.counted.now.asked c.loop-place.counted.asked inv.opened inv.asked
     c.requires.opened c.requires.asked in (
       omega (arith, can.lower),
@@ -62,7 +62,7 @@ walk_under-requires g t c κs within =
           (
             c.requires.sound,
             rw inv.geometry
-                (can.node, (can.room_is, (can.opened_few, can.asked_few))),
+                (can.node, (can.space_is, (can.opened_few, can.asked_few))),
           ),
         ),
       ),
@@ -75,7 +75,7 @@ loop-place-preserved g t c =
     let inv = c.loop-place.invariant in
     let high = is_high c.requires.node c.node-node.ensures.value c.if-node-eq1.false in
     let takes = g.V.Collector.takes in
-    let room = g.V.Collector.room in
+    let space = g.V.Collector.space in
     let fills = g.met.V.Collector.fills in
     let own = c.take-own.ensures in
     let n = node_at c.args.tree.now c.args.number.number in
@@ -88,9 +88,9 @@ loop-place-preserved g t c =
     let at : c.new-number.result.number ≡ (node_at tree c.args.number.number).first + c.in-Some.place =
     omega (arith, c.new-number.ensures, first) in
     let can = can_open law c.requires.sound (search rules) c.requires.node high g.V.Visitor.opens next at _ _
-    (room c.loop-place.visitor) c.requires.room
-    (taken_room takes room fills c.args.visitor.now c.check_children.new.visitor _ closed)
-    (all_taken_room takes room fills c.check_children.new.visitor c.loop-place.visitor _ inv.taken)
+    (space c.loop-place.visitor) c.requires.space
+    (taken_space takes space fills c.args.visitor.now c.check_children.new.visitor _ closed)
+    (all_taken_space takes space fills c.check_children.new.visitor c.loop-place.visitor _ inv.taken)
     c.args.opened.now c.loop-place.opened c.args.counted.now.asked c.loop-place.counted.asked inv.opened inv.asked
     c.requires.opened c.requires.asked in
     let e = rw inv.geometry at c.walk_under.ensures in

@@ -4,7 +4,7 @@ use Rattle.rt_geo.specs.declared.geometry.Within.TheVariants.{Not}
 use Rattle.rt_tree.specs.Packed.{node_at}
 use Rattle.rt_search.specs.{Answers.{Answer}, Walking.{HasTaken, answers_under, answers_where}}
 use Rattle.rt_search.proofs.{Children.{asked, children_of, node_question, not_low}, Pendings.{one_closed, one_dropped, one_waits}}
-use Rattle.rt_search.proofs.Walks.{child_fits, closed_more, known, taken-append, taken_room}
+use Rattle.rt_search.proofs.Walks.{child_fits, closed_more, known, taken-append, taken_space}
 use Rattle.rt_search.proofs.walk.check_children.Goals.{else-visit_node, then-visit_node}
 use Rattle.rt_search.proofs.walk.check_children.Goals as goal
 
@@ -47,7 +47,7 @@ visit_node-requires g c =
     c.node-whole.ensures.value (rw level at c.info_under-info.ensures) in
     let law = g.met.G.Geometry.lawful c.args.counted.now.geometry in
     let fits = child_fits law c.requires.sound (search rules) c.requires.node high g.V.Visitor.opens c.loop-i.i k.few
-    _ _ c.requires.room (taken_room g.V.Collector.takes g.V.Collector.room g.met.V.Collector.fills c.args.visitor.now
+    _ _ c.requires.space (taken_space g.V.Collector.takes g.V.Collector.space g.met.V.Collector.fills c.args.visitor.now
     c.loop-i.visitor _ c.loop-i.invariant.taken) in
     omega (arith, ap (λ n. n.size) k.is, rw (← k.at) at fits)
 

@@ -10,7 +10,7 @@ walk_under-requires g c =
     record {
       sound = c.in-Some.ensures.sound;
       node = k.node;
-      room = omega (arith, c.requires.room c.in-Some.ensures.sound);
+      space = omega (arith, c.requires.space c.in-Some.ensures.sound);
       opened = omega arith;
       asked = omega arith;
     }

@@ -18,7 +18,7 @@ loop-tile-init g c =
           c.args.level c.args.fanout (box_of g.T.Items.extent) g.T.Items.has_layers
           (g.T.Items.key_order (g.T.Items.list c.args.items.now)) (g.T.Items.in_order (g.T.Items.list c.args.items.now))
           (g.T.Items.list c.args.packed.now) keys c.requires.packable c.requires.several c.arrange.ensures.arranged
-          c.arrange.ensures.places c.requires.room);
+          c.arrange.ensures.places c.requires.numbers);
     }
 
 pub pack_tile-requires-clause-places : goal.pack_tile-requires-clause-places

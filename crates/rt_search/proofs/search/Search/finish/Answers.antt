@@ -9,5 +9,5 @@ returns-clause-items g c =
 
 pub returns-clause-counted : goal.returns-clause-counted
 returns-clause-counted g c =
-    let before = ap (λ rooms. rooms.opened) c.deref.ensures in
+    let before = ap (λ buffers. buffers.opened) c.deref.ensures in
     rw (← c.self.view_is) (omega (arith, before))

@@ -3,7 +3,7 @@ use Rattle.std.proofs.{Common.{◌≡◌, FitsSigned, IfSome, arith, not, rules,
 use Rattle.rt_geo.specs.Laws.{extent_of_entry}
 use Rattle.rt_search.specs.{Walking.{HasTaken, answers_among}, Work.{is_kept}}
 use Rattle.rt_search.proofs.Children.{entries_count, entry_question, leaf_read}
-use Rattle.rt_search.proofs.Walks.{few_entries, one_entry, taken-append, taken_room}
+use Rattle.rt_search.proofs.Walks.{few_entries, one_entry, taken-append, taken_space}
 use Rattle.rt_search.proofs.walk.Collector.visit_entries.Goals.{in-Not, in_default}
 use Rattle.rt_search.proofs.walk.Collector.visit_entries.Goals as goal
 
@@ -38,15 +38,15 @@ check-verdict-requires-clause-layers g c =
     (entry_question (g.G.Geometry.meaning c.args.counted.now.geometry) c.args.tree.now c.requires.leaf.sound
     c.args.parent (search rules) c.args.node _ c.loop-i.i c.requires.leaf.below k.at).well_formed.layers
 
-pub check-verdict-requires-clause-room : goal.check-verdict-requires-clause-room
-check-verdict-requires-clause-room g c = grind (arith, entries_count)
+pub check-verdict-requires-clause-count : goal.check-verdict-requires-clause-count
+check-verdict-requires-clause-count g c = grind (arith, entries_count)
 
 pub visit_entry-requires : goal.visit_entry-requires
 visit_entry-requires g c =
     search (
       rules,
       entries_count,
-      taken_room g.Self.Collector.takes g.Self.Collector.room g.met.Self.Collector.fills,
+      taken_space g.Self.Collector.takes g.Self.Collector.space g.met.Self.Collector.fills,
       few_entries (g.G.Geometry.meaning c.args.counted.now.geometry),
     )
 

@@ -5,8 +5,8 @@ use Rattle.rt_search.proofs.wide.Wide.len.Goals as goal
 pub returns-clause-value : goal.returns-clause-value
 returns-clause-value c = grind (arith, length-in_order)
 
-pub returns-clause-room : goal.returns-clause-room
-returns-clause-room c = grind (arith, length-in_order)
+pub returns-clause-capacity : goal.returns-clause-capacity
+returns-clause-capacity c = grind (arith, length-in_order)
 
 pub returns-clause-rising : goal.returns-clause-rising
 returns-clause-rising c = grind (arith, rising_sorted)

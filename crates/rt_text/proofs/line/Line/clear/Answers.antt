@@ -3,4 +3,4 @@ use Rattle.std.proofs.lemmas.List.{drop_all}
 use Rattle.rt_text.proofs.line.Line.clear.Goals as goal
 
 pub returns : goal.returns
-returns c = drop_all 128 c.self.inside.room (omega arith)
+returns c = drop_all 128 c.self.inside.buffer (omega arith)

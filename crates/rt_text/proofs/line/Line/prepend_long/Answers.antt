@@ -21,7 +21,7 @@ pub prepend_short-requires : goal.prepend_short-requires
 prepend_short-requires c =
     let digits = c.sixteen_digits in
     let few = length-decimal-le 4 (c.args.number / 10 ^ 16) (omega arith) (omega arith) (omega arith) in
-    omega (arith, longer digits.result c.args.self.now c.prepend_digits-else-number-lt-LONG.new.self digits.ensures.digits.0 c.prepend_digits-else-number-lt-LONG.ensures, few, c.requires.room)
+    omega (arith, longer digits.result c.args.self.now c.prepend_digits-else-number-lt-LONG.new.self digits.ensures.digits.0 c.prepend_digits-else-number-lt-LONG.ensures, few, c.requires.capacity)
 
 pub returns-then-number-lt-LONG-clause-value : goal.returns-then-number-lt-LONG-clause-value
 returns-then-number-lt-LONG-clause-value c =

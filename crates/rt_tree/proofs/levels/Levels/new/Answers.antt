@@ -25,14 +25,14 @@ loop-size-preserved c =
     let longer : length (c.loop-size.levels ++ above ∷ []) ≡ length c.loop-size.levels + 1 = omega
     (arith, length-append c.loop-size.levels (above ∷ [])) in
     let count = length c.loop-size.levels in
-    let room : above ≤ 2 ^ (25 - (count + 1)) = subst (λ n. above ≤ 2 ^ n) (omega arith) (power_more (25 - count) size above
-    before.room (omega (arith, before.few)) (div_ceil-halves size fanout c.requires.several)) in
+    let bound : above ≤ 2 ^ (25 - (count + 1)) = subst (λ n. above ≤ 2 ^ n) (omega arith) (power_more (25 - count) size above
+    before.bound (omega (arith, before.few)) (div_ceil-halves size fanout c.requires.several)) in
     let several : 1 < above = omega arith in
     rw (c.push-in-loop-size.ensures, c.div_ceil-size.ensures) (record {
       course = course_more c.loop-size.levels fanout size _ c.requires.several before.some more before.course;
       some = some;
-      room = subst (λ n. above ≤ 2 ^ (25 - n)) (sym longer) room;
-      few = omega (arith, power_left (25 - (count + 1)) above room several);
+      bound = subst (λ n. above ≤ 2 ^ (25 - n)) (sym longer) bound;
+      few = omega (arith, power_left (25 - (count + 1)) above bound several);
     })
 
 pub returns-then-size-eq1-clause-sizes : goal.returns-then-size-eq1-clause-sizes

@@ -6,7 +6,7 @@ abbrev pub invariant-loop-size : goal.invariant-loop-size
 invariant-loop-size l = record {
   course : l.levels ++ sizes_above l.size l.fanout l.size ≡ level_sizes l.len l.fanout;
   some : 0 < l.size;
-  room : l.size ≤ 2 ^ (25 - length l.levels);
+  bound : l.size ≤ 2 ^ (25 - length l.levels);
   few : length l.levels ≤ 24;
 }
 
