@@ -1,4 +1,4 @@
--- Worked rows: on each of these command lines clap's own definitions, on which ours stand, compute what is asked for, or the kinds of the refusal.
+-- Worked rows: on each of these command lines clap's own definitions, on which ours stand, compute what is requested, or the kinds of the refusal.
 use Rattle.std.proofs.Common.{◌≡◌, ◌∷◌, [], refl, codes, true, false, List, ℕ, Some, None}
 use Rattle.clap.specs.Words.{fault_of, takes}
 use Rattle.clap.specs.declared.error.kind.ErrorKind.TheVariants as kind

@@ -20,8 +20,8 @@ fn a_refused_name_is_reported(rt: HostRuntime) -> Result<(), Fail> {
     Ok(())
 }
 
-// Words, and what they ask for: the fanout and the name of the queries, or why they ask for nothing.
-const ASKED: [(&[&str], Result<(u8, Option<&str>), ArgFault>); 5] = [
+// Words, and their settings: the fanout and the name of the queries, or the fault.
+const CASES: [(&[&str], Result<(u8, Option<&str>), ArgFault>); 5] = [
     (&["rtfilter", "t.csv"], Ok((16, None))),
     (
         &[
@@ -77,7 +77,7 @@ fn is_expected(
 
 #[test]
 fn refused_settings_are_reported(rt: HostRuntime) -> Result<(), Fail> {
-    for (words, expected) in ASKED {
+    for (words, expected) in CASES {
         let Ok(names) = names(rt.alloc(), words) else {
             return Err(Fail::new("refused beforehand"));
         };

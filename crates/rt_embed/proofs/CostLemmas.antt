@@ -42,20 +42,20 @@ module _ (t : Packed) (vertices : List Vertex) where
     needed = skip + places + 1
 
     -- a count goes on by what the next query opens: for what is still passed over and what has a place
-    pub finds_next : (from : Position) (asked : Question) (n old mid new : ℕ)
+    pub finds_next : (from : Position) (question : Question) (n old mid new : ℕ)
         → from.skip ≡ skip - many (take done queries) → from.end ≡ length (lists_of t.entries vertices skip (take done queries))
-        → from.end ≤ places → n ≡ places → question_of vertices (get_or queries done d) ≡ Some asked
+        → from.end ≤ places → n ≡ places → question_of vertices (get_or queries done d) ≡ Some question
         → CountsOn old (opened_by_finds t vertices needed (take done queries)) mid
-        → CountsOn mid (opened_to_find t (needed_from from n) asked) new
+        → CountsOn mid (opened_to_find t (needed_from from n) question) new
         → CountsOn old (opened_by_finds t vertices needed (take (done + 1) queries)) new
-    finds_next from asked n old mid new skipped ended place len is before next =
+    finds_next from question n old mid new skipped ended place len is before next =
         let left : needed - many (take done queries) ≡ needed_from from n =
         omega (arith, skipped, ended, place, len, length-drop skip (flat_map (list_of t.entries vertices) (take done queries))) in
-        let one : opened (needed - many (take done queries)) (get_or queries done d) ≡ opened_to_find t (needed_from from n) asked =
+        let one : opened (needed - many (take done queries)) (get_or queries done d) ≡ opened_to_find t (needed_from from n) question =
         ap (λ n. opened n (get_or queries done d)) left ∙ ap (λ found. option_map_or (opened_to_find t (needed_from from n)) found 0) is in
         let more = finds_more needed queries done d inside in
-        let both : CountsOn old (opened_by_finds t vertices needed (take done queries) + opened_to_find t (needed_from from n) asked) new =
-        counts_then old mid new (opened_by_finds t vertices needed (take done queries)) (opened_to_find t (needed_from from n) asked) before next in
+        let both : CountsOn old (opened_by_finds t vertices needed (take done queries) + opened_to_find t (needed_from from n) question) new =
+        counts_then old mid new (opened_by_finds t vertices needed (take done queries)) (opened_to_find t (needed_from from n) question) before next in
         omega (arith, both, more, one)
 
     -- the next query asks no question
@@ -81,17 +81,17 @@ module _ (t : Packed) (vertices : List Vertex) where
 
   -- of measures, with the next query
   pub measures_next : (measure : Measure) (queries : List PlainQuery) (done : ℕ) (d : PlainQuery) → done < length queries
-      → (asked : Question) (old mid new : ℕ) → question_of vertices (get_or queries done d) ≡ Some asked
+      → (question : Question) (old mid new : ℕ) → question_of vertices (get_or queries done d) ≡ Some question
       → CountsOn old (opened_by_measures t vertices measure (take done queries)) mid
-      → CountsOn mid (opened_to_measure t measure asked) new
+      → CountsOn mid (opened_to_measure t measure question) new
       → CountsOn old (opened_by_measures t vertices measure (take (done + 1) queries)) new
-  measures_next measure queries done d inside asked old mid new is before next =
-      let one : option_map_or (opened_to_measure t measure) (question_of vertices (get_or queries done d)) 0 ≡ opened_to_measure t measure asked =
+  measures_next measure queries done d inside question old mid new is before next =
+      let one : option_map_or (opened_to_measure t measure) (question_of vertices (get_or queries done d)) 0 ≡ opened_to_measure t measure question =
       ap (λ found. option_map_or (opened_to_measure t measure) found 0) is in
       let more : opened_by_measures t vertices measure (take (done + 1) queries)
-      ≡ opened_by_measures t vertices measure (take done queries) + opened_to_measure t measure asked =
+      ≡ opened_by_measures t vertices measure (take done queries) + opened_to_measure t measure question =
       ap (opened_by_measures t vertices measure) (take_more queries done d inside)
       ∙ measures_push measure (take done queries) (get_or queries done d) ∙ ap (λ n. opened_by_measures t vertices measure (take done queries) + n) one in
-      let both : CountsOn old (opened_by_measures t vertices measure (take done queries) + opened_to_measure t measure asked) new =
-      counts_then old mid new (opened_by_measures t vertices measure (take done queries)) (opened_to_measure t measure asked) before next in
+      let both : CountsOn old (opened_by_measures t vertices measure (take done queries) + opened_to_measure t measure question) new =
+      counts_then old mid new (opened_by_measures t vertices measure (take done queries)) (opened_to_measure t measure question) before next in
       omega (arith, both, more)

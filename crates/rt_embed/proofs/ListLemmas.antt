@@ -119,9 +119,9 @@ module _ (entries : List Entry) (vertices : List Vertex) (skip : ℕ) where
       rw one (ap (λ n. ends_of entries vertices skip queries done ++ n ∷ []) last)
 
   -- the list of a query that asks a question
-  pub list_is : (query : PlainQuery) (asked : Question) → question_of vertices query ≡ Some asked
-      → list query ≡ answers_to entries asked
-  list_is query asked is = ap (λ found. option_map_or (answers_to entries) found []) is
+  pub list_is : (query : PlainQuery) (question : Question) → question_of vertices query ≡ Some question
+      → list query ≡ answers_to entries question
+  list_is query question is = ap (λ found. option_map_or (answers_to entries) found []) is
 
 -- a list behind another is whole where it ends behind all of its items, and else cut
 pub whole_list : {X : Type 0} (before list : List X) (from end : ℕ) → end ≡ from + length list

@@ -21,8 +21,8 @@ limit_within limit needed = option_map_or (min needed) limit needed
 
 -- how many nodes a find opens for a question, where so many of its answers are needed at most
 abbrev pub opened_to_find : Packed → (needed : ℕ) → Question → ℕ
-opened_to_find tree needed asked =
-    opened_by_search (meaning_of asked.region asked.layers asked.order) tree (Some (limit_within asked.limit needed))
+opened_to_find tree needed question =
+    opened_by_search (meaning_of question.region question.layers question.order) tree (Some (limit_within question.limit needed))
 
 -- for one query after the other, where so many of all their answers are needed at most
 abbrev pub opened_by_finds : Packed → (vertices : List Vertex) → (needed : ℕ) → List PlainQuery → ℕ
@@ -33,8 +33,8 @@ opened_by_finds tree vertices needed (query ∷ queries) =
 
 -- how many nodes are opened to measure a question: for the number of its boxes as many as a count costs
 abbrev pub opened_to_measure : Packed → Measure → Question → ℕ
-opened_to_measure tree Count asked = measure_of tree CostOfCount asked
-opened_to_measure tree cost asked = measure_of tree cost asked
+opened_to_measure tree Count question = measure_of tree CostOfCount question
+opened_to_measure tree cost question = measure_of tree cost question
 
 -- for one query after the other
 abbrev pub opened_by_measures : Packed → (vertices : List Vertex) → Measure → List PlainQuery → ℕ

@@ -15,7 +15,7 @@ use Rattle.rt_embed.specs.declared.vertex.Vertex.{Vertex}
 
 -- the answers to a question
 abbrev pub answers_to : List Entry → Question → List Answer
-answers_to entries asked = answers entries (meaning_of asked.region asked.layers asked.order) asked.limit
+answers_to entries question = answers entries (meaning_of question.region question.layers question.order) question.limit
 
 -- the answers to a query, none of one that asks no question
 abbrev pub list_of : List Entry → (vertices : List Vertex) → PlainQuery → List Answer
@@ -61,5 +61,5 @@ pub record HasFound (entries : List Entry) (vertices : List Vertex) (skip : ℕ)
   pub ids_stand : Begins ids (map id_of (take result.found (lists_of entries vertices skip queries)))
   pub scores_stand : Begins scores (map score_of (take result.found (lists_of entries vertices skip queries)))
   pub ends_stand : Begins ends (ends_of entries vertices skip queries result.done)
-  pub asked : AllAsk vertices (take result.done queries)
+  pub questions : AllAsk vertices (take result.done queries)
   pub stop : StopsFor result.stop entries vertices skip queries ids result.done result.found

@@ -15,10 +15,10 @@ use Rattle.rt_embed.specs.declared.vertex.Vertex.{Vertex}
 
 -- what is measured of a question: how many boxes it asks for, without its limit, or how many nodes of the tree are opened
 abbrev pub measure_of : Packed → Measure → Question → ℕ
-measure_of tree Count asked = length (accepted tree.entries (meaning_of asked.region asked.layers by_id))
-measure_of tree CostOfFind asked =
-    opened_by_search (meaning_of asked.region asked.layers asked.order) tree asked.limit
-measure_of tree CostOfCount asked = opened_by_count (meaning_of asked.region asked.layers by_id) tree
+measure_of tree Count question = length (accepted tree.entries (meaning_of question.region question.layers by_id))
+measure_of tree CostOfFind question =
+    opened_by_search (meaning_of question.region question.layers question.order) tree question.limit
+measure_of tree CostOfCount question = opened_by_count (meaning_of question.region question.layers by_id) tree
 
 -- what is measured of a query, 0 of one that asks no question
 abbrev pub measured_of : Packed → (vertices : List Vertex) → Measure → PlainQuery → ℕ

@@ -6,7 +6,7 @@ use Rattle.rt_tree.specs.Packed.{Packed}
 use Rattle.rt_search.specs.Work.{CountsOn}
 use Rattle.rt_filter.specs.Runs.{run_of}
 
--- the tree that is asked, the reply to the last text, and how many nodes were opened in the frontier, as far as 64 bits count:
+-- the tree that is searched, the reply to the last text, and how many nodes were opened in the frontier, as far as 64 bits count:
 -- none where there is no frontier, so that the next call takes memory for one
 pub record Contents : Type 0 where
   pub tree : Packed

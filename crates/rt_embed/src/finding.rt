@@ -144,12 +144,12 @@ fn put_up_to(
     requires place { from.end ≤ length ids.old }
     requires within { IsWithin limit (needed_from from (length ids.old))
         (length tree.now.entries) }
-    ensures put { let asked = question.now in
-        let meaning = meaning_of asked.region asked.layers asked.order in
+    ensures put { let query = question.now in
+        let meaning = meaning_of query.region query.layers query.order in
         IsPut (answers tree.now.entries meaning limit) from result.0
         ids.old ids.new scores.old scores.new }
-    ensures worked { let asked = question.now in
-        let meaning = meaning_of asked.region asked.layers asked.order in
+    ensures worked { let query = question.now in
+        let meaning = meaning_of query.region query.layers query.order in
         CountsOn frontier.opened (opened_by_search meaning tree.now limit) result.1.opened }
     ensures capacity { result.1.capacity ≡ frontier.capacity }
 {

@@ -24,7 +24,7 @@ pub(crate) fn measure_each(
     requires capacity { length tree.now.entries ≤ frontier.capacity }
     ensures measured { take result.0 measured.new
         ≡ map (measured_of tree.now vertices.now measure) (take result.0 queries.now) }
-    ensures asked { AllAsk vertices.now (take result.0 queries.now) }
+    ensures questions { AllAsk vertices.now (take result.0 queries.now) }
     ensures most { result.0 ≤ min (length queries.now) (length measured.old) }
     ensures stop { result.0 < min (length queries.now) (length measured.old)
         → AsksNone vertices.now queries.now result.0 }

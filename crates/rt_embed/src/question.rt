@@ -2,11 +2,11 @@
 
 use rt_geo::{Layers, Order, Region};
 
-/// What is asked for: the boxes of a region that are on some layers, in an order, and at most so many where there is a
+/// What a query selects: the boxes of a region that are on some layers, in an order, and at most so many where there is a
 /// limit.
 #[derive(Debug, PartialEq, Eq, Drop)]
 pub struct Question {
-    /// Which boxes are asked for.
+    /// Which boxes are selected.
     pub region: Region,
     /// On which layers; [`Layers::all`] asks for each.
     pub layers: Layers,
@@ -19,7 +19,7 @@ pub struct Question {
 /// What is measured of a question.
 #[derive(Clone, Copy, Debug, PartialEq, Eq)]
 pub enum Measure {
-    /// How many boxes are asked for, without the limit.
+    /// How many boxes are selected, without the limit.
     Count,
     /// How many nodes of the tree a find opens.
     CostOfFind,

@@ -27,7 +27,7 @@ use std::sync::Arc;
 /// A loaded tree, which sessions share, and what one of them needs for itself: the memory of its searches, and its reply.
 ///
 /// It is seen as the tree, the reply to the last text, and how many nodes were opened in its frontier. No call changes the
-/// tree. A call that finds no memory returns [`AllocError`], and the session can be asked again.
+/// tree. A call that finds no memory returns [`AllocError`], and the session can be used again.
 #[derive(Drop)]
 pub struct Session {
     tree: Arc<Tree>,
@@ -192,7 +192,7 @@ impl Session {
     ) -> Result<usize, AllocError>
         ensures measured { IfOk result (λ n. take n measured.new
             ≡ map (measured_of self.old.tree vertices.now measure) (take n queries.now)) }
-        ensures asked { IfOk result (λ n. AllAsk vertices.now (take n queries.now)) }
+        ensures questions { IfOk result (λ n. AllAsk vertices.now (take n queries.now)) }
         ensures most { IfOk result (λ n. n ≤ min (length queries.now) (length measured.old)) }
         ensures stop { IfOk result (λ n. n < min (length queries.now) (length measured.old)
             → AsksNone vertices.now queries.now n) }

@@ -1,4 +1,4 @@
-//! Texts that are asked, each beside a run over the table and the text.
+//! Texts of query lines, each compared with a run over the table and the text.
 
 use crate::expect::expect_eq;
 use crate::given::{BOXES, open, settings};

@@ -50,31 +50,31 @@ module _ (t : Packed) (sound : IsSound t) (accepts accepts' : Extent → Bool) (
   abbrev by : Order → Meaning
   by order = guided accepts state (order_score order) (order_estimate order)
 
-  abbrev asked : Order → Meaning
-  asked order = guided accepts' state' (order_score order) (order_estimate order)
+  abbrev requested : Order → Meaning
+  requested order = guided accepts' state' (order_score order) (order_estimate order)
 
-  same_answers : (order : Order) (limit : Option ℕ) → answers t.entries (by order) limit ≡ answers t.entries (asked order) limit
-  same_answers order limit = ap (λ found. limited limit (sorted answer_cmp (map (answer_of (asked order)) found))) same
+  same_answers : (order : Order) (limit : Option ℕ) → answers t.entries (by order) limit ≡ answers t.entries (requested order) limit
+  same_answers order limit = ap (λ found. limited limit (sorted answer_cmp (map (answer_of (requested order)) found))) same
 
   with_scores : (order : Order) (limit : Option ℕ) (does : List Answer → ℕ → ℕ → ℕ → Type 0)
-      → IsDone t (by order) limit does → IsDone t (asked order) limit does
-  with_scores order limit = done_by t (by order) (asked order) limit (same_answers order limit)
-      (searches_same t (by order) (asked order) limit sound (same_answers order None)
+      → IsDone t (by order) limit does → IsDone t (requested order) limit does
+  with_scores order limit = done_by t (by order) (requested order) limit (same_answers order limit)
+      (searches_same t (by order) (requested order) limit sound (same_answers order None)
       (λ bound is v w n some. grind (arith, alike v w n some, order_alike order t v w n)))
       (ap length same)
-      (counts_same t (by order) (asked order) sound (λ v w n some. grind (arith, alike v w n some)))
+      (counts_same t (by order) (requested order) sound (λ v w n some. grind (arith, alike v w n some)))
 
   -- without a limit no node needs a score
   without_scores : (order : Order) (does : List Answer → ℕ → ℕ → ℕ → Type 0)
-      → IsDone t (unscored_meaning (by order)) None does → IsDone t (asked order) None does
-  without_scores order = done_by t (unscored_meaning (by order)) (asked order) None (same_answers order None)
-      (searches_same t (unscored_meaning (by order)) (asked order) None sound (same_answers order None)
+      → IsDone t (unscored_meaning (by order)) None does → IsDone t (requested order) None does
+  without_scores order = done_by t (unscored_meaning (by order)) (requested order) None (same_answers order None)
+      (searches_same t (unscored_meaning (by order)) (requested order) None sound (same_answers order None)
       (λ bound none v w n some. rw none (grind (arith, alike v w n some))))
       (ap length same)
-      (counts_same t (unscored_meaning (by order)) (asked order) sound (λ v w n some. grind (arith, alike v w n some)))
+      (counts_same t (unscored_meaning (by order)) (requested order) sound (λ v w n some. grind (arith, alike v w n some)))
 
   done_alike : (order : Order) (limit : Option ℕ) (does : List Answer → ℕ → ℕ → ℕ → Type 0)
-      → IsDone t (searched_in_shape accepts state order limit) limit does → IsDone t (asked order) limit does
+      → IsDone t (searched_in_shape accepts state order limit) limit does → IsDone t (requested order) limit does
   done_alike (ById rank) limit = with_scores (ById rank) limit
   done_alike (Near rank) None = without_scores (Near rank)
   done_alike (Near rank) (Some limit) = with_scores (Near rank) (Some limit)
@@ -82,28 +82,28 @@ module _ (t : Packed) (sound : IsSound t) (accepts accepts' : Extent → Bool) (
 
 -- ---- regions
 
-module _ (t : Packed) (sound : IsSound t) (asked : Region) (layers : Layers) (order : Order) (limit : Option ℕ) (does : List Answer → ℕ → ℕ → ℕ → Type 0) where
+module _ (t : Packed) (sound : IsSound t) (requested : Region) (layers : Layers) (order : Order) (limit : Option ℕ) (does : List Answer → ℕ → ℕ → ℕ → Type 0) where
   abbrev on_accepts : Extent → Bool
-  on_accepts = on_layers_accepts (region_accepts asked) layers
+  on_accepts = on_layers_accepts (region_accepts requested) layers
 
   abbrev on_state : Info → Within
-  on_state = on_layers_state (region_state asked) layers
+  on_state = on_layers_state (region_state requested) layers
 
   -- on some layers
   pub done_on_layers : IsDone t (searched_in_shape on_accepts on_state order limit) limit does
-      → IsDone t (meaning_of asked layers order) limit does
+      → IsDone t (meaning_of requested layers order) limit does
   done_on_layers = done_alike t sound on_accepts on_accepts on_state on_state refl
-      (λ v w n some. grind (arith, region_alike asked t v w n)) order limit does
+      (λ v w n some. grind (arith, region_alike requested t v w n)) order limit does
 
   -- on all layers none is checked
   pub done_on_all : layers.bits ≡ 18446744073709551615
-      → IsDone t (searched_in_shape (region_accepts asked) (region_state asked) order limit) limit does
-      → IsDone t (meaning_of asked layers order) limit does
+      → IsDone t (searched_in_shape (region_accepts requested) (region_state requested) order limit) limit does
+      → IsDone t (meaning_of requested layers order) limit does
   done_on_all bits =
       let all = ap with_bits bits in
-      done_alike t sound (region_accepts asked) on_accepts (region_state asked) on_state
-      (accepted-all (region_accepts asked) t.entries sound.table.layers layers all)
-      (λ v w n some. region_alike asked t v w n ∙ sym (state_all (region_state asked) layers all (info_of_node t w n) some)) order limit does
+      done_alike t sound (region_accepts requested) on_accepts (region_state requested) on_state
+      (accepted-all (region_accepts requested) t.entries sound.table.layers layers all)
+      (λ v w n some. region_alike requested t v w n ∙ sym (state_all (region_state requested) layers all (info_of_node t w n) some)) order limit does
 
 -- a disc means what its circle and the order do
 pub disc_searched : (disc : Disc) (circle : Circle) (order : Order) (limit : Option ℕ) → order ≡ near circle.centre

@@ -106,8 +106,8 @@ answered-first loaded progress out opened kept given = record {
 module _ (loaded : Loaded) (old progress : Progress) (old_out out : Option (List ℕ)) (old_opened opened : ℕ) (kept given begun rest : List ℕ) (s : IsAnswering loaded old progress old_out out old_opened opened kept given begun rest) where
   -- a line was answered
   module _ (n : ℕ) (at : IsFirstByte (is_byte line_feed) rest (Some n)) (line : List ℕ) (line-is : line ≡ begun ++ take n rest) (fits : length line ≤ longest_line) where
-    abbrev asked : Parsed
-    asked = parsed_of progress.is_too_long line
+    abbrev requested : Parsed
+    requested = parsed_of progress.is_too_long line
 
     short : length (begun ++ take n rest) ≤ longest_line
     short = rw (← line-is) fits
@@ -116,29 +116,29 @@ module _ (loaded : Loaded) (old progress : Progress) (old_out out : Option (List
     cut = found rest n at
 
     -- it is the line that is complete now
-    asked-is : (pulled : List ℕ) → IsAfter old kept pulled → asked ≡ parsed_line (begun_line (pulled ++ s.front) ++ take n rest)
-    asked-is pulled is = rw line-is (search (rules, parsed-begun, short))
+    requested-is : (pulled : List ℕ) → IsAfter old kept pulled → requested ≡ parsed_line (begun_line (pulled ++ s.front) ++ take n rest)
+    requested-is pulled is = rw line-is (search (rules, parsed-begun, short))
 
     -- so the reply is the one to it
     reply-is : (pulled : List ℕ) → IsAfter old kept pulled
-        → reply loaded (progress.lines + 1) asked ≡ reply loaded (length (numbered_lines (pulled ++ s.front) false) + 1) (parsed_line (begun_line (pulled ++ s.front) ++ take n rest))
-    reply-is pulled is = search (rules, asked-is)
+        → reply loaded (progress.lines + 1) requested ≡ reply loaded (length (numbered_lines (pulled ++ s.front) false) + 1) (parsed_line (begun_line (pulled ++ s.front) ++ take n rest))
+    reply-is pulled is = search (rules, requested-is)
 
     -- the nodes that it opens are those that the line opens
     opened-more : (pulled : List ℕ) → IsAfter old kept pulled
         → opened_by_lines loaded (completed pulled (s.front ++ (take n rest ++ line_feed ∷ [])) false)
-        ≡ opened_by_lines loaded (completed pulled s.front false) + opened_by_line loaded asked
+        ≡ opened_by_lines loaded (completed pulled s.front false) + opened_by_line loaded requested
     opened-more pulled is =
         ap (opened_by_lines loaded) (completed-append pulled s.front (take n rest ++ line_feed ∷ []) false)
         ∙ opened_by_lines-append loaded (completed pulled s.front false) (completed (pulled ++ s.front) (take n rest ++ line_feed ∷ []) false)
         ∙ ap (λ lines. opened_by_lines loaded (completed pulled s.front false) + opened_by_lines loaded lines) (completed-found (pulled ++ s.front) (take n rest) [] false cut.clear)
         ∙ ap (λ n. opened_by_lines loaded (completed pulled s.front false) + n)
         (opened_by_lines-one loaded (length (numbered_lines (pulled ++ s.front) false) + 1, begun_line (pulled ++ s.front) ++ take n rest)
-        ∙ ap (opened_by_line loaded) (sym (asked-is pulled is)))
+        ∙ ap (opened_by_line loaded) (sym (requested-is pulled is)))
 
     pub answered-more : (left : List ℕ) (now : Progress) (sent : Option (List ℕ)) (total : ℕ) → left ≡ drop (n + 1) rest
-        → now ≡ record { lines = progress.lines + 1; bad = progress.bad || is_fault asked; is_too_long = false }
-        → Appends out sent (reply loaded (progress.lines + 1) asked) → CountsOn opened (opened_by_line loaded asked) total
+        → now ≡ record { lines = progress.lines + 1; bad = progress.bad || is_fault requested; is_too_long = false }
+        → Appends out sent (reply loaded (progress.lines + 1) requested) → CountsOn opened (opened_by_line loaded requested) total
         → IsAnswering loaded old now old_out sent old_opened total kept given [] left
     answered-more left now sent total l e w count =
         let ended : List ℕ = take n rest ++ line_feed ∷ [] in
@@ -148,9 +148,9 @@ module _ (loaded : Loaded) (old progress : Progress) (old_out out : Option (List
           parts = s.parts ∙ ap (λ zs. s.front ++ zs) parts ∙ sym (append_assoc s.front ended left);
           so = λ pulled is.
               let sent_so_far = s.so pulled is in
-              let one : output loaded (completed (pulled ++ s.front) ended false) ≡ reply loaded (progress.lines + 1) asked =
+              let one : output loaded (completed (pulled ++ s.front) ended false) ≡ reply loaded (progress.lines + 1) requested =
               ap (output loaded) (completed-found (pulled ++ s.front) (take n rest) [] false cut.clear) ∙ append-nil _ ∙ sym (reply-is pulled is) in
-              let all : output loaded (completed pulled (s.front ++ ended) false) ≡ output loaded (completed pulled s.front false) ++ reply loaded (progress.lines + 1) asked =
+              let all : output loaded (completed pulled (s.front ++ ended) false) ≡ output loaded (completed pulled s.front false) ++ reply loaded (progress.lines + 1) requested =
               ap (output loaded) (completed-append pulled s.front ended false) ∙ output-append loaded (completed pulled s.front false) (completed (pulled ++ s.front) ended false)
               ∙ ap (λ zs. output loaded (completed pulled s.front false) ++ zs) one in (
                 rw (e, line-is, ← append_assoc pulled s.front ended) (after-line (pulled ++ s.front) (take n rest) cut.clear progress begun sent_so_far.0 short),
@@ -165,14 +165,14 @@ module _ (loaded : Loaded) (old progress : Progress) (old_out out : Option (List
     lines-later pulled = search (rules, cut, completed-append, completed-found)
 
     -- a line couldn't be answered
-    pub answered-cut : (sent : Option (List ℕ)) → WasCut out sent (reply loaded (progress.lines + 1) asked) → (pulled : List ℕ) → IsAfter old kept pulled
+    pub answered-cut : (sent : Option (List ℕ)) → WasCut out sent (reply loaded (progress.lines + 1) requested) → (pulled : List ℕ) → IsAfter old kept pulled
         → WasCut old_out sent (output loaded (completed pulled given false))
     answered-cut sent w pulled is = search (rules, lines-later, output-append, cut_then, reply-is)
 
-    pub fault-cut : (bad : Bool) → bad ≡ (progress.bad || is_fault asked) → (pulled : List ℕ) → IsAfter old kept pulled
+    pub fault-cut : (bad : Bool) → bad ≡ (progress.bad || is_fault requested) → (pulled : List ℕ) → IsAfter old kept pulled
         → bad ≡ true → any_fault (numbered_lines (pulled ++ given) false) ≡ true
     fault-cut bad b pulled is h =
-        let so : (any_fault (numbered_lines (pulled ++ s.front) false) || is_fault (parsed_line (begun_line (pulled ++ s.front) ++ take n rest))) ≡ true = search (rules, asked-is) in
+        let so : (any_fault (numbered_lines (pulled ++ s.front) false) || is_fault (parsed_line (begun_line (pulled ++ s.front) ++ take n rest))) ≡ true = search (rules, requested-is) in
         let whole = ap (λ zs. numbered_lines (pulled ++ zs) false) (s.parts ∙ ap (λ zs. s.front ++ zs) cut.parts)
         ∙ ap (λ zs. numbered_lines zs false) (sym (append_assoc pulled s.front (take n rest ++ line_feed ∷ drop (n + 1) rest)))
         ∙ completed-all (pulled ++ s.front) (take n rest ++ line_feed ∷ drop (n + 1) rest) false

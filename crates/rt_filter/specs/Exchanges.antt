@@ -8,7 +8,7 @@ use Rattle.rt_filter.specs.Replies.{Loaded, output}
 use Rattle.rt_filter.specs.declared.serving.ServeFault.TheVariants as serve
 use Rattle.rt_filter.specs.declared.serving.Served.{Served}
 
--- what is known when serving begins: what queries are asked of, and the devices
+-- what is known when serving begins: what queries search, and the devices
 pub record AtStart : Type 0 where
   pub loaded : Loaded
   pub devices : Connection

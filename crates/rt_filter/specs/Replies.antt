@@ -23,7 +23,7 @@ use Rattle.rt_search.specs.Answers.{Answer, accepted, answers}
 use Rattle.rt_search.specs.Work.{opened_by_count, opened_by_search}
 use Rattle.rt_filter.specs.Lines.{is_too_long}
 
--- what queries are asked of: the entries of a table, and how many children a node of its tree may have
+-- what queries search: the entries of a table, and how many children a node of its tree may have
 pub record Loaded : Type 0 where
   pub entries : List Entry
   pub fanout : ℕ
@@ -41,7 +41,7 @@ abbrev pub levels_reply : (line : ℕ) → (sizes : List ℕ) → List ℕ
 levels_reply line sizes =
     flat_map (λ level. level_line level.0 level.1) (reverse (enumerate_from 0 sizes)) ++ ok_line line (length sizes)
 
--- what is asked for: the boxes of the region that are on these layers, in this order
+-- what a query selects: the boxes of the region that are on these layers, in this order
 abbrev pub meaning_of : Region → Layers → Order → Meaning
 meaning_of region layers order = guided (on_layers_accepts (region_accepts region) layers)
     (on_layers_state (region_state region) layers) (order_score order) (order_estimate order)

@@ -18,9 +18,9 @@ const USAGE: &[u8] =
 pub enum Ending {
     /// The run was made, and ended so.
     Ran(Outcome),
-    /// Help was asked for, and printed.
+    /// Help was requested, and printed.
     Helped,
-    /// Help was asked for, and couldn't be printed.
+    /// Help was requested, and couldn't be printed.
     NotHelped,
     /// The words are none that the program takes.
     BadCommandLine,

@@ -36,14 +36,14 @@ pub fn run_std<T: Read + Drop, Q: Read + Drop, W: Write + Drop>(
 ) -> (Outcome, ReadSource<Q>, BufferedSink<W>)
     // As of `run`. Each failure of the reader of the queries or of the writer is reported, and no other; the queries are
     // given up without one only once all turns are used up.
-    ensures headline { (all asked before : List ℕ) → T.remaining table ≡ Some all
-        → Q.remaining queries ≡ Some asked → writer_contents W.contents answers ≡ Some before
+    ensures headline { (all lines before : List ℕ) → T.remaining table ≡ Some all
+        → Q.remaining queries ≡ Some lines → writer_contents W.contents answers ≡ Some before
         → result.0.fault ≢ Some RunFault.Memory
         → result.0.fault ≢ Some (RunFault.Table TableFault.Read) → result.1.failures ≡ 0
-        → result.2.failures ≡ 0 → length asked < 2 ^ 64 - 1
+        → result.2.failures ≡ 0 → length lines < 2 ^ 64 - 1
         → (writer_contents W.contents result.2.device
-        ≡ Some (before ++ (run_of settings.now all asked).0))
-        × (result.0 ≡ (run_of settings.now all asked).1) }
+        ≡ Some (before ++ (run_of settings.now all lines).0))
+        × (result.0 ≡ (run_of settings.now all lines).1) }
     ensures ending { (all : List ℕ) → T.remaining table ≡ Some all → Ends settings.now all
         (record { coming = Q.remaining queries; written = writer_contents W.contents answers })
         (record {

@@ -122,8 +122,8 @@ fn with_polygon<J: Job>(
 ) -> J::Outcome
     requires capacity { length tree.now.entries ≤ frontier.capacity }
     requires runs { J.runs job.old tree.now limit }
-    ensures { let t = tree.now in let asked = region.Polygon polygon.now in let meaning =
-        searched_in_shape (region_accepts asked) (region_state asked) order limit in
+    ensures { let t = tree.now in let shape = region.Polygon polygon.now in let meaning =
+        searched_in_shape (region_accepts shape) (region_state shape) order limit in
         J.does job.old job.new frontier
         (answers t.entries meaning limit) (opened_by_search meaning t limit)
         (length (accepted t.entries meaning)) (opened_by_count meaning t) result }

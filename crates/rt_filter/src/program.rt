@@ -30,14 +30,15 @@ where
     Q: Read + Drop,
     W: Write + Drop,
     requires { F.IsAlwaysCallable opener }
-    ensures { let asked = invocation.now in (table : Result T Error)
-        × FnReturnsAt F.Fn opener asked.table table
-        × MatchResult table (λ table. MatchOption asked.queries
-        (EndsRun (λ sink. writer_contents W.contents sink.device) asked.settings (T.remaining table)
+    ensures { let command = invocation.now in (table : Result T Error)
+        × FnReturnsAt F.Fn opener command.table table
+        × MatchResult table (λ table. MatchOption command.queries
+        (EndsRun (λ sink. writer_contents W.contents sink.device)
+        command.settings (T.remaining table)
         (record { coming = Q.remaining input; written = W.contents answers }) result.0 result.1)
         (λ name. (queries : Result T Error) × FnReturnsAt F.Fn opener name queries
         × MatchResult queries (λ queries. EndsRun (λ sink. writer_contents W.contents sink.device)
-        asked.settings (T.remaining table)
+        command.settings (T.remaining table)
         (record { coming = T.remaining queries; written = W.contents answers }) result.0 result.1)
         (λ _. result.0 ≡ Ending.NoQueries)))
         (λ _. result.0 ≡ Ending.NoTable) }

@@ -153,8 +153,8 @@ impl Progress {
           bad = self.old.bad || is_fault (parsed_of self.old.is_too_long line.now);
           is_too_long = false;
         } }
-        ensures worked { let asked = parsed_of self.old.is_too_long line.now in IfOk result (λ left.
-            CountsOn frontier.opened (opened_by_line (loaded_tree tree.now) asked) left.opened) }
+        ensures worked { let query = parsed_of self.old.is_too_long line.now in IfOk result (λ left.
+            CountsOn frontier.opened (opened_by_line (loaded_tree tree.now) query) left.opened) }
         ensures capacity { IfOk result (λ left. left.capacity ≡ frontier.capacity) }
         ensures untouched { is_pushed.new ≡ false
             → (is_pushed.old ≡ false) × (sink.new ≡ sink.old) }

@@ -55,7 +55,7 @@ fn pulls_at_most_a_longest_line(rt: HostRuntime) -> Result<(), Fail> {
     Ok(())
 }
 
-/// What the devices of a run were asked, in order.
+/// The calls of a run's devices, in order.
 #[derive(Drop)]
 struct Calls {
     letters: Cell<[u8; 32]>,

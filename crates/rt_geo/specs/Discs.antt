@@ -14,7 +14,7 @@ disc_meaning disc =
     guided (disc_accepts disc) (disc_state disc) (order_score (near disc.centre)) (order_estimate (near disc.centre))
 
 -- the disc means what the circle and the order do as a shape and a rank: it accepts the same boxes, gives each the same
--- score, and has the same verdict on whatever it is asked
+-- score, and has the same verdict on every argument
 abbrev pub MeansBoth : Disc → Circle → Order → Type 0
 MeansBoth disc circle order =
     let shape = region.Circle circle in

@@ -46,7 +46,7 @@ NoneAccepted accepts extent = (b : Extent) → IsBoxInside b extent → accepts 
 
 -- ---- what it means
 
--- which boxes are accepted, the score of each of them, and the verdict that is answered on whatever is asked
+-- which boxes are accepted, the score of each of them, and the verdict on each argument
 pub record Meaning : Type 0 where
   pub accepts : Extent → Bool
   pub score : Extent → ℕ
@@ -73,7 +73,7 @@ guided accepts state score estimate = record {
   verdict = λ info. record { within = state info; score = estimate info };
 }
 
--- ---- what it may be asked
+-- ---- what it may be called with
 
 -- some layer is shown, and of an entry exactly one
 pub record ShowsLayers (info : Info) : Type 0 where

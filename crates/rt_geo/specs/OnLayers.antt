@@ -7,9 +7,9 @@ use Rattle.rt_geo.specs.declared.geometry.Within.{Within}
 use Rattle.rt_geo.specs.declared.geometry.Within.TheVariants.{Not, Partly, Fully}
 use Rattle.rt_geo.specs.declared.layers.Layers.{Layers}
 
--- the boxes that the shape accepts and of which a layer is asked for: a box has one
-abbrev pub on_layers_accepts : (Extent → Bool) → (asked : Layers) → Extent → Bool
-on_layers_accepts accepts asked b = accepts b && not (disjoint b.layers asked)
+-- the boxes that the shape accepts and of which a layer is selected: a box has one
+abbrev pub on_layers_accepts : (Extent → Bool) → (selected : Layers) → Extent → Bool
+on_layers_accepts accepts selected b = accepts b && not (disjoint b.layers selected)
 
 -- PARTLY in the place of FULLY
 abbrev pub at_most_partly : Within → Within
@@ -17,9 +17,9 @@ at_most_partly Fully = Partly
 at_most_partly Partly = Partly
 at_most_partly Not = Not
 
--- NOT where the shape answers it, or where none of the layers is asked for; otherwise FULLY where the shape answers it
--- and each of the layers is asked for; otherwise PARTLY
-abbrev pub on_layers_state : (Info → Within) → (asked : Layers) → Info → Within
-on_layers_state state asked i =
-    if disjoint i.layers asked then Not
-    else (if subset i.layers asked then state i else at_most_partly (state i))
+-- NOT where the shape answers it, or where none of the layers is selected; otherwise FULLY where the shape answers it
+-- and each of the layers is selected; otherwise PARTLY
+abbrev pub on_layers_state : (Info → Within) → (selected : Layers) → Info → Within
+on_layers_state state selected i =
+    if disjoint i.layers selected then Not
+    else (if subset i.layers selected then state i else at_most_partly (state i))

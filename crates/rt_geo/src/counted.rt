@@ -33,7 +33,7 @@ impl<'a, G: Geometry> Drop for Counted<'a, G> {
 }
 
 impl<'a, G: Geometry> Counted<'a, G> {
-    /// The geometry, not asked yet.
+    /// The geometry, with no check made yet.
     pub fn new(geometry: &'a G) -> Counted<'a, G>
         ensures geometry { result.geometry ≡ geometry.now }
         ensures asked { result.asked ≡ 0 }

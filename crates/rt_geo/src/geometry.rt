@@ -1,7 +1,7 @@
-//! Query functions: what they are asked, what they answer, and the laws that they keep.
+//! Query functions: their arguments, their results, and the laws that they keep.
 //!
-//! A search over a tree of boxes asks a [`Geometry`] about each entry and node that it meets. What is
-//! asked, but for layers, and the three states of an answer are those of a custom query of SQLite's
+//! A search over a tree of boxes asks a [`Geometry`] about each entry and node that it meets. Its
+//! argument, but for layers, and the three states of its result are those of a custom query of SQLite's
 //! R*Tree module.
 //!
 //! What a search may conclude from an answer stands in the geometry's laws, which `specs/Laws.antt`
@@ -22,13 +22,13 @@ use crate::layers::Layers;
 pub enum Within {
     /// None: the entry, or all that lies under the node, is dropped.
     Not,
-    /// Perhaps some and not all: an entry is an answer, a node's children are asked about.
+    /// Perhaps some and not all: an entry is an answer, a node's children are checked.
     Partly,
     /// All: an entry is an answer, and so is all that lies under the node.
     Fully,
 }
 
-/// What a query function is asked about: an entry, or a node of the tree.
+/// The argument of a query function: an entry, or a node of the tree.
 #[derive(Clone, Copy, Debug, PartialEq, Eq)]
 pub struct Info {
     /// The entry's box, or a box in which all the entries under the node lie.

@@ -8,11 +8,11 @@
 //!
 //! - Boxes: [`Bounds`], [`Entry`], [`overlaps`], [`inside`], [`hull`]; sets of their [`Layers`].
 //! - Distances: [`Point`], [`near2`], [`far2`].
-//! - Query functions: [`Shape`], [`Rank`], [`Geometry`], asked with an [`Info`], answering a [`Within`],
+//! - Query functions: [`Shape`], [`Rank`], [`Geometry`], called with an [`Info`], returning a [`Within`],
 //!   a score or a [`Verdict`]; [`Guided`] joins a shape and a rank, [`Disc`] is a circle and the order by distance from
 //!   its centre in one; [`Unscored`] is a geometry without the scores of its nodes; [`Counted`] counts the checks.
 //! - Shapes: [`All`], [`Window`], [`Inside`], [`Covers`], [`Circle`], [`Polygon`], and the enum [`Region`] of
-//!   these; [`OnLayers`] is one of them on some layers. A [`PreparedPolygon`] is a polygon that is asked faster.
+//!   these; [`OnLayers`] is one of them on some layers. A [`PreparedPolygon`] is a polygon that is checked faster.
 //! - Ranks: [`ById`], [`Near`], [`Smallest`], and the enum [`Order`] of these.
 //!
 //! The definitions that the contracts cite stand in `specs/`: `Boxes`, `Layers`, `Entries`, `Distances`, `Laws`,

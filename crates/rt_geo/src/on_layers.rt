@@ -26,7 +26,7 @@ impl<S: Shape> Shape for OnLayers<S> {
             return Within::Not;
         }
         match self.shape.within(info) {
-            // A box inside may be of a layer that isn't asked for.
+            // A box inside may be of a layer that isn't selected.
             Within::Fully if !info.layers.is_subset(self.layers) => Within::Partly,
             state => state,
         }

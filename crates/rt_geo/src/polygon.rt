@@ -112,7 +112,7 @@ impl Polygon {
         Err(PolygonFault::NotConvex)
     }
 
-    /// The same polygon, made ready to be asked about many boxes, where each edge leads less than 2^31 far on each
+    /// The same polygon, prepared for checks of many boxes, where each edge leads less than 2^31 far on each
     /// axis. `None` where one leads farther.
     #[inline(always)]
     pub fn prepare(&self) -> Option<PreparedPolygon>

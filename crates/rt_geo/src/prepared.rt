@@ -1,4 +1,4 @@
-//! Convex polygons with short edges, made ready to be asked about many boxes.
+//! Convex polygons with short edges, prepared for checks of many boxes.
 //!
 //! What is the same for all boxes is computed once: where each edge leads, how far its line lies from the origin,
 //! and which corner of a box lies farthest to its left. The products of short edges with coordinates have 63 bits.
@@ -34,7 +34,7 @@ pub(crate) struct HalfPlane {
     side_y: u32,
 }
 
-/// A [`Polygon`] each edge of which leads less than 2^31 far on each axis. It is asked faster.
+/// A [`Polygon`] each edge of which leads less than 2^31 far on each axis. It is checked faster.
 #[derive(Debug, Drop)]
 pub struct PreparedPolygon {
     vertices: ArrayVec<Point, MOST_VERTICES>,
@@ -106,7 +106,7 @@ fn state_by_half_planes(
     }
 }
 
-/// Whether the corner that each half-plane picks of these sides lies in it. All are asked, so that it is
+/// Whether the corner that each half-plane picks of these sides lies in it. All are checked, so that it is
 /// branchless: which one parts them would be mispredicted.
 #[inline(always)]
 fn all_reach(half_planes: &[HalfPlane], sides: &[i64; 4]) -> bool

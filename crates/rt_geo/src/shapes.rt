@@ -35,7 +35,7 @@ pub struct Circle {
     pub radius: u32,
 }
 
-/// A borrowed shape is asked as the shape.
+/// A borrowed shape returns what the shape does.
 impl<S: Shape> Shape for &S {
     ghost accepts = { λ s. S.accepts s.now };
 

@@ -2,7 +2,9 @@
 
 ghost use Rattle.std.specs.Prelude.{◌≡◌, ◌+◌, ◌-◌, ◌<◌, ◌^◌};
 
-use crate::asked::{Sides, boxed, expect_score, expect_state, expect_states, question, verdict_of};
+use crate::checks::{
+    Sides, boxed, expect_score, expect_state, expect_states, question, verdict_of,
+};
 use crate::expect::expect_eq;
 use crate::watched::Watched;
 use rt_geo::{
@@ -142,7 +144,7 @@ fn what_is_inside_or_covers_answers_its_states(rt: HostRuntime) {
     expect_state(&rt, &covers, LEFT, 0, Within::Not);
 }
 
-// Circles, each asked about each of the boxes, as an entry's and as a node's.
+// Circles, each checked against each of the boxes, as an entry's and as a node's.
 static DISCS: [(Point, u32); 5] = [
     (Point { x: 0, y: 0 }, 0),
     (Point { x: 12, y: 14 }, 4),

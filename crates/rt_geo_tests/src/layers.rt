@@ -2,7 +2,7 @@
 
 ghost use Rattle.std.specs.Prelude.{◌≤◌};
 
-use crate::asked::{Sides, boxed, question_on};
+use crate::checks::{Sides, boxed, question_on};
 use crate::expect::expect_eq;
 use rt_geo::{Covers, Layers, OnLayers, Shape, Window, Within};
 use std::process::Abort;

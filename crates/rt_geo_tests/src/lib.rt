@@ -3,7 +3,7 @@
 #![tactic(auto)]
 
 #[cfg(test)]
-mod asked;
+mod checks;
 #[cfg(test)]
 mod expect;
 #[cfg(test)]

@@ -1,6 +1,6 @@
 //! Polygons that were worked out by hand.
 
-use crate::asked::{Sides, expect_state, expect_states};
+use crate::checks::{Sides, expect_state, expect_states};
 use crate::expect::expect_eq;
 use rt_geo::{Point, Polygon, PolygonFault, PreparedPolygon, Region, Within};
 use std::process::Abort;

@@ -1,6 +1,6 @@
 //! The public calls as other crates write them: shapes own what they are made of, and each region and each order is one value.
 
-use crate::asked::{boxed, expect_state, question};
+use crate::checks::{boxed, expect_state, question};
 use crate::expect::expect_eq;
 use rt_geo::{
     All, Bounds, ById, Circle, Counted, Covers, Geometry, Guided, Inside, Layers, Near, OnLayers,

@@ -1,4 +1,4 @@
-//! A geometry that counts by itself how often it is asked, whoever asks it.
+//! A geometry that counts its own checks, whoever makes them.
 
 use rt_geo::{Geometry, Info, Verdict};
 use std::cell::Cell;
@@ -24,7 +24,7 @@ impl<G: Geometry> Watched<G> {
         self.checks.get()
     }
 
-    /// The level of what it was asked about last.
+    /// The level of its last check.
     pub fn last_level(&self) -> u8 {
         self.last_level.get()
     }

@@ -110,7 +110,7 @@ child t number sub level i lt =
     search (rules, subtree_level, subtree_box)
 
 -- a child that was read and is asked about
-pub record IsAsked (t : Packed) (number i k : ℕ) (x : PlainNode) (v : Verdict) (info : Info) : Type 0 where
+pub record IsChecked (t : Packed) (number i k : ℕ) (x : PlainNode) (v : Verdict) (info : Info) : Type 0 where
   pub few : i < (node_at t number).count
   pub at : k ≡ (node_at t number).first + i
   pub child : IsChild t (node_at t number) (height_at t number - 1) i k
@@ -146,7 +146,7 @@ pub asked : {t : Packed} {number : ℕ} {n : Node} {children : List PlainNode} �
     (v : Verdict) {k : ℕ} {x : PlainNode} {whole : Node} {info : Info} → i < length children
     → x ≡ get_or children i x → k ≡ n.first + i → whole ≡ node_at t k
     → info ≡ info_under (root_of t).level v (record { bounds = x.bounds; layers = whole.layers }) (n.level - 1)
-    → IsAsked t number i k x v info
+    → IsChecked t number i k x v info
 asked here i v lt read number_is whole_is info_is = search (rules, child, get_or-map)
 
 -- all children of a node

@@ -17,7 +17,7 @@ use Rattle.rt_search.specs.Walking.{HasTakenAll, IsFilling, IsKnown, answer_if, 
 use Rattle.rt_search.specs.{Pending.{Waiting}, Walking.{answers_where, verdict_of_child}}
 use Rattle.rt_search.specs.Work.{info_of_node, is_kept, its_children, one_node}
 use Rattle.rt_search.proofs.Answering.{IsEntryInside, all_inside, among, among-append, among_accepted, among_none}
-use Rattle.rt_search.proofs.{Answering.{take_more_at}, Children.{IsAsked, all_children, child, entry_question}}
+use Rattle.rt_search.proofs.{Answering.{take_more_at}, Children.{IsChecked, all_children, child, entry_question}}
 use Rattle.rt_search.proofs.Children.{height_suc, inner_at, leaf_at, leaf_node, node_question, part_length}
 use Rattle.rt_search.proofs.{Giving.{length-scored}, Joined.{answers_upto, kept_not, upto_all, upto_more}, Sizes.{size_under}}
 use Rattle.rt_search.proofs.{Pendings.{IsNext}, Working.{sum_more}}
@@ -158,7 +158,7 @@ module _ {meaning : Meaning} (law : IsLawful meaning) where
 
       -- ---- a child that was checked
 
-      pub known : {i k : ℕ} {x : PlainNode} {info : Info} → IsAsked t number i k x v info
+      pub known : {i k : ℕ} {x : PlainNode} {info : Info} → IsChecked t number i k x v info
           → IsKnown (meaning.verdict info).within (node_at t k).size (answers_under t meaning k)
       known {i} {k} is =
           let inside = all_inside t (height_at t k) (node_at t k) is.child.tree in

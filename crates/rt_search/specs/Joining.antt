@@ -16,7 +16,7 @@ use Rattle.rt_search.specs.declared.item.Item.{Item}
 use Rattle.rt_search.specs.declared.item.Place.TheVariants as place
 use Rattle.rt_search.specs.declared.item.WaitingNode.{WaitingNode}
 
--- what is asked about an entry whose parent has this verdict
+-- the argument of the check of an entry whose parent has this verdict
 abbrev pub info_of_child : Packed → (parent : Verdict) → Entry → Info
 info_of_child t parent e = info_under (root_of t).level parent (extent_of_entry e) 0
 

@@ -12,13 +12,13 @@ use Rattle.rt_tree.specs.Packed.{Packed, child_nodes, extent_of_node, height, ro
 use Rattle.rt_tree.specs.declared.tree.Node.{Node}
 use Rattle.rt_search.specs.Answers.{Answer, answers}
 
--- ---- what is asked
+-- ---- what is checked
 
--- the root isn't asked about: it counts as PARTLY, with the score 0
+-- the root isn't checked: it counts as PARTLY, with the score 0
 abbrev pub root_verdict : Verdict
 root_verdict = record { within = Partly; score = 0 }
 
--- what is asked about a child of a node that has this verdict
+-- the argument of the check of a child of a node that has this verdict
 abbrev pub info_under : (top : ℕ) → (parent : Verdict) → Extent → (level : ℕ) → Info
 info_under top parent extent level = record {
   bounds = extent.bounds;
@@ -54,7 +54,7 @@ reached_from_root opens cost meaning t =
 abbrev pub one_node : Node → ℕ
 one_node n = 1
 
--- what it costs in checks: each child is asked about
+-- what it costs in checks: each child is checked
 abbrev pub its_children : Node → ℕ
 its_children n = n.count
 

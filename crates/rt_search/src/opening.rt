@@ -13,7 +13,7 @@ use crate::walk::{Collector, info_under, walk_under};
 use rt_geo::{Counted, Geometry, Verdict, Within};
 use rt_tree::{NodeNo, Tree};
 
-/// Puts the root into an empty queue, if the tree has one. It isn't asked about.
+/// Puts the root into an empty queue, if the tree has one. It isn't checked.
 pub(crate) fn put_root(tree: &Tree, queue: &mut Queue)
     requires empty { queue.old.items ≡ [] }
     requires capacity { length tree.now.entries ≤ queue.old.capacity }

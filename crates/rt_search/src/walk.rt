@@ -1,4 +1,4 @@
-//! Walking over the nodes of a tree: what is asked about the children of an opened node, and who takes what is found.
+//! Walking over the nodes of a tree: the checks of the children of an opened node, and the collectors of what is found.
 //!
 //! A count, and a search whose nodes have no scores, walk from the root downwards. What they do at a node and with an
 //! entry is their [`Visitor`]. A best-first search opens one node at a time, in an order of its own, and needs a
@@ -80,7 +80,7 @@ pub(crate) trait Visitor: Collector {
     ghost drops: { (v : Verdict) → v.within ≡ Not → opens v ≡ false };
 }
 
-/// What is asked about a child of a node that has this verdict.
+/// The argument of the check of a child of a node that has this verdict.
 #[inline(always)]
 pub fn info_under(tree: &Tree, parent: Verdict, bounds: Bounds, layers: Layers, level: u8) -> Info
     ensures { let extent : Extent = record { bounds = bounds; layers = layers } in
@@ -96,7 +96,7 @@ pub fn info_under(tree: &Tree, parent: Verdict, bounds: Bounds, layers: Layers, 
     }
 }
 
-/// Walks over a tree from its root, which isn't asked about, and returns how many nodes were opened. All that is
+/// Walks over a tree from its root, which isn't checked, and returns how many nodes were opened. All that is
 /// accepted is taken, in whatever order. A visitor needs space for as many entries as there are, by what holds of each tree.
 pub(crate) fn walk<V: Visitor, G: Geometry>(
     tree: &Tree,

@@ -1,4 +1,4 @@
-//! In which order a geometry is asked, over the tree of `opening`: when a node is opened all its children are checked, in
+//! In which order a geometry is called, over the tree of `opening`: when a node is opened all its children are checked, in
 //! the order of their numbers or places, before the next node is opened.
 
 use crate::expect::expect_eq;

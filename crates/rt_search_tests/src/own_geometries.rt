@@ -1,4 +1,4 @@
-//! A shape and a geometry of one's own, asked about single boxes.
+//! A shape and a geometry of one's own, checked on single boxes.
 
 ghost use Rattle.rt_geo.specs.declared.geometry.Within.TheVariants.{Partly};
 

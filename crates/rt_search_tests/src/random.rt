@@ -45,7 +45,7 @@ struct Case {
 
 static ENDS: [i32; 5] = [i32::MIN, -1, 0, 1, i32::MAX];
 
-// Queries for each table, and the most answers that are asked for where there is a limit.
+// Queries for each table, and the most answers that are requested where there is a limit.
 const QUERIES: u32 = 3;
 
 const MOST_ANSWERS: u64 = 12;
@@ -192,7 +192,7 @@ impl Row {
     }
 
     // Two layers, which may be one.
-    fn asked(&mut self, kinds: Kinds) -> Layers {
+    fn selected(&mut self, kinds: Kinds) -> Layers {
         let layers = match kinds {
             Kinds::AnyOf(layers) => layers,
             Kinds::ByPlace => 64,
@@ -365,7 +365,7 @@ fn add_shapes(
         centre: point,
         radius: around.max_x().abs_diff(area.max_x()),
     };
-    let layers = row.asked(case.kinds);
+    let layers = row.selected(case.kinds);
     let frontier = add_shape(rt, tree, frontier, Window(area), layers, point, digest);
     let frontier = add_shape(rt, tree, frontier, circle, layers, point, digest);
     add_shape(rt, tree, frontier, All, layers, point, digest)

@@ -103,7 +103,7 @@ fn expect_answers<G: Geometry>(
     expect_finished(rt, search.finish(), capacity, want.asked);
 }
 
-// What a search gives after so many answers: behind the last it gives none, however often it is asked.
+// What a search gives after so many answers: behind the last it gives none, however often it is called.
 fn answer_at(answers: &[(i64, u128)], place: usize) -> Option<(i64, u128)> {
     answers.get(place).copied()
 }
@@ -243,7 +243,7 @@ fn in_window(rt: &impl Abort, sides: Sides) -> Guided<Window, ById> {
     }
 }
 
-// How many of the nearest are asked for.
+// How many of the nearest are requested.
 static NEAREST: [(u64, Want<'static>); 3] = [
     (
         3,
@@ -633,7 +633,7 @@ fn expect_first_so_many<G: Geometry>(
     let _first = first.finish();
 }
 
-// The same of a search whose nodes have no scores: none is shown before the first answer is asked for, and then all.
+// The same of a search whose nodes have no scores: none is shown before the first answer is requested, and then all.
 #[test]
 fn nodes_without_scores_are_shown_at_the_first_answer(rt: HostRuntime) {
     for limit in [None, Some(1), Some(64), Some(65)] {

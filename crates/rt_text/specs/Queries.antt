@@ -140,7 +140,7 @@ on_list words = if is_next (codes "on") words then word_as layers_of (drop 1 wor
 
 -- ---- orders and limits
 
--- the order where none is asked for: a circle's boxes nearest to its centre first, those of every other region by id
+-- the order where none is given: a circle's boxes nearest to its centre first, those of every other region by id
 abbrev pub usual_order : Region → Order
 usual_order (Circle disc) = near disc.centre
 usual_order other = by_id
@@ -199,13 +199,13 @@ box_query (verb ∷ more) =
     else if bytes_eq verb (codes "count") then count more
     else Err fault.UnknownVerb
 
--- the cost of a query for boxes is asked
+-- the query for the cost of a query for boxes
 abbrev pub cost_of : Query → Query
 cost_of (Find region order limit layers) = CostFind region order limit layers
 cost_of (Count region layers) = CostCount region layers
 cost_of other = other
 
--- a query by its first word; after `cost` stands one for boxes, whose cost is asked and whose faults stay
+-- a query by its first word; after `cost` stands one for boxes, whose cost is requested and whose faults stay
 abbrev pub query : (verb : List ℕ) → (more : List (List ℕ)) → Result Query QueryFault
 query verb more =
     if bytes_eq verb (codes "levels") then map_value (λ end. Levels) (finished more)

@@ -414,7 +414,7 @@ fn finds(rt: HostRuntime) {
     expect_finds(&rt, &LAYERS);
 }
 
-// What `cost nearest` is asked near.
+// The order of `cost nearest`.
 const FAR: Order = Order::Near(Near(Point { x: 12, y: -12 }));
 
 static COSTS: [Row; 9] = [

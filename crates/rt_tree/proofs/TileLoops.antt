@@ -163,7 +163,7 @@ module _ {X : Type 0} (items : List X) (extent : X → Extent) (size : X → ℕ
             ∙ sym (groups-chunks box in_order fanout (omega arith)));
       }
 
-  -- what is asked of the next tile: what its keys tell, and what that weighs
+  -- what is required of the next tile: what its keys tell, and what that weighs
   pub next_tile : (all_packed : List X) (all_nodes : List Node) (packed : List X) (nodes : List Node)
       (keys tile later : List ℕ) → IsLevelPart all_packed all_nodes packed nodes keys → keys ≡ tile ++ later
       → All (Tells items) tile × (sum_by size (items_at items tile) < 2 ^ 32)

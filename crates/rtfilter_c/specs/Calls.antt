@@ -28,8 +28,8 @@ abbrev pub HoldsSame : (old new : Option Contents) → Type 0
 HoldsSame old new = IfSome old (λ before. IsSomeAnd new (λ after. after.tree ≡ before.tree))
 
 -- and it differs in no more than what was opened in its frontier
-abbrev pub HoldsAsked : (old new : Option Contents) → Type 0
-HoldsAsked old new = IfSome old (λ before. IsSomeAnd new (λ after. after ≡ record before { opened = after.opened }))
+abbrev pub HoldsSearched : (old new : Option Contents) → Type 0
+HoldsSearched old new = IfSome old (λ before. IsSomeAnd new (λ after. after ≡ record before { opened = after.opened }))
 
 -- a number that the tree gives, of nodes that were opened in its frontier
 abbrev pub Opens : (old new : Option Contents) → (so_many : Packed → ℕ) → Type 0

@@ -40,7 +40,7 @@ finds progress stop = record { done = progress.done; found = progress.found; sto
 pub record MeasuredSo (session : Contents) (measure : Measure) (vertices : List Vertex) (queries : List PlainQuery)
     (code done : ℕ) (measured : List ℕ) : Type 0 where
   pub values : take done measured ≡ map (measured_of session.tree vertices measure) (take done queries)
-  pub asked : AllAsk vertices (take done queries)
+  pub questions : AllAsk vertices (take done queries)
   pub why : ((code ≡ 0) × (done ≡ length queries)) ⊎ ((code ≡ 7) × AsksNone vertices queries done)
 
 -- the same of the session that is held; or the code 6 says that no memory was left, and nothing is written

@@ -1,7 +1,7 @@
 //! Queries in numbers.
 
 ghost use Rattle.std.specs.Prelude.{◌≡◌, ◌≢◌, ◌+◌, ◌<◌, ◌⊎◌, IfSome, IsSome, length, take};
-ghost use Rattle.rtfilter_c.specs.{Calls.{HoldsAsked, IsReady, Opens}, Numbers.{HasMeasured, finds, stop_of}};
+ghost use Rattle.rtfilter_c.specs.{Calls.{HoldsSearched, IsReady, Opens}, Numbers.{HasMeasured, finds, stop_of}};
 ghost use Rattle.rt_embed.specs.{Costs.{opened_by_finds, opened_by_measures}, Findings.{HasFound}};
 
 use crate::codes::{BAD_QUERY, FULL, NO_MEMORY, OK};
@@ -40,7 +40,7 @@ pub extern "C" fn rtfilter_engine_find(
         let needed = skip + length ids.old + 1 in
         opened_by_finds tree vertices.now needed (take (progress.new.done + 1) queries.now)) }
     ensures made { IsReady session.old.held → result ≢ NO_MEMORY }
-    ensures same { HoldsAsked session.old.held session.new.held }
+    ensures same { HoldsSearched session.old.held session.new.held }
     ensures codes { (result ≡ OK) ⊎ (result ≡ FULL) ⊎ (result ≡ BAD_QUERY) ⊎ (result ≡ NO_MEMORY) }
 {
     let mut held = session.take(alloc);
@@ -88,7 +88,7 @@ pub extern "C" fn rtfilter_engine_count(
     ensures worked { result ≢ NO_MEMORY → Opens session.old.held session.new.held (λ tree.
         opened_by_measures tree vertices.now Measure.Count (take done.new queries.now)) }
     ensures made { IsReady session.old.held → result ≢ NO_MEMORY }
-    ensures same { HoldsAsked session.old.held session.new.held }
+    ensures same { HoldsSearched session.old.held session.new.held }
 {
     measure(
         alloc,
@@ -118,7 +118,7 @@ pub extern "C" fn rtfilter_engine_cost_of_find(
     ensures worked { result ≢ NO_MEMORY → Opens session.old.held session.new.held (λ tree.
         opened_by_measures tree vertices.now Measure.CostOfFind (take done.new queries.now)) }
     ensures made { IsReady session.old.held → result ≢ NO_MEMORY }
-    ensures same { HoldsAsked session.old.held session.new.held }
+    ensures same { HoldsSearched session.old.held session.new.held }
 {
     measure(
         alloc,
@@ -148,7 +148,7 @@ pub extern "C" fn rtfilter_engine_cost_of_count(
     ensures worked { result ≢ NO_MEMORY → Opens session.old.held session.new.held (λ tree.
         opened_by_measures tree vertices.now Measure.CostOfCount (take done.new queries.now)) }
     ensures made { IsReady session.old.held → result ≢ NO_MEMORY }
-    ensures same { HoldsAsked session.old.held session.new.held }
+    ensures same { HoldsSearched session.old.held session.new.held }
 {
     measure(
         alloc,
@@ -178,7 +178,7 @@ fn measure(
     ensures worked { result ≢ NO_MEMORY → Opens session.old.held session.new.held (λ tree.
         opened_by_measures tree vertices.now measure (take done.new queries.now)) }
     ensures made { IsReady session.old.held → result ≢ NO_MEMORY }
-    ensures same { HoldsAsked session.old.held session.new.held }
+    ensures same { HoldsSearched session.old.held session.new.held }
 {
     let mut held = session.take(alloc);
     let answered = held.measure(alloc, measure, queries, vertices, measured);

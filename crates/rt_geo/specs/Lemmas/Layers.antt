@@ -94,10 +94,10 @@ pub has-all : (layer : ℕ) → layer ≤ most_layer → has all_layers layer �
 has-all layer few = ap (λ n. n == 1) (bit_at_ones 64 layer (omega (arith, few)))
 
 -- a single layer is shared with a set exactly where it is in the set
-pub disjoint-only : (layer : ℕ) (asked : Layers) → disjoint (only layer) asked ≡ not (has asked layer)
-disjoint-only layer asked =
-    ap (λ n. n == 0) (and_comm (2 ^ layer) asked.bits ∙ and_pow asked.bits layer)
-    ∙ none_of (bit_at asked.bits layer) (2 ^ layer) (bit_at-lt asked.bits layer) (pow_pos layer)
+pub disjoint-only : (layer : ℕ) (selected : Layers) → disjoint (only layer) selected ≡ not (has selected layer)
+disjoint-only layer selected =
+    ap (λ n. n == 0) (and_comm (2 ^ layer) selected.bits ∙ and_pow selected.bits layer)
+    ∙ none_of (bit_at selected.bits layer) (2 ^ layer) (bit_at-lt selected.bits layer) (pow_pos layer)
 
 -- ---- the two tests by what is in the sets
 

@@ -27,7 +27,7 @@ returns-in_default-clause-found c =
       ids_stand = rw given kept.ids_stand;
       scores_stand = rw given kept.scores_stand;
       ends_stand = kept.ends_stand;
-      asked = kept.asked;
+      questions = kept.questions;
       stop = (
         kept.end,
         (
@@ -52,14 +52,14 @@ returns-then-not-position-clause-found c =
     let from = c.loop-done.position.end in
     let end = c.find_one-left.result.0.end in
     let first = lists_of entries vertices skip (take done queries) in
-    let asked = c.in-Ok.question in
-    let last = drop c.loop-done.position.skip (answers_to entries asked) in
+    let question = c.in-Ok.question in
+    let last = drop c.loop-done.position.skip (answers_to entries question) in
     let cut = put.cut (search rules) in
     let both : lists_of entries vertices skip (take (done + 1) queries) ≡ first ++ last =
     lists_more entries vertices skip queries done no_query inside
     ∙ ap (λ list. first ++ drop (skip - length (flat_map (list_of entries vertices) (take done queries))) list)
-    (list_is entries vertices skip (get_or queries done no_query) asked (sym (ap result_ok c.question.ensures) ∙ ap result_ok c.in-Ok.is))
-    ∙ ap (λ n. first ++ drop n (answers_to entries asked)) (sym kept.skip) in
+    (list_is entries vertices skip (get_or queries done no_query) question (sym (ap result_ok c.question.ensures) ∙ ap result_ok c.in-Ok.is))
+    ∙ ap (λ n. first ++ drop n (answers_to entries question)) (sym kept.skip) in
     let long : length (lists_of entries vertices skip (take (done + 1) queries)) ≡ from + length last =
     omega (arith, ap length both, length-append first last, kept.end) in
     let few : end ≤ length (lists_of entries vertices skip (take (done + 1) queries)) = omega (arith, long, cut.1) in
@@ -73,7 +73,7 @@ returns-then-not-position-clause-found c =
       scores_stand = subst (λ list. Begins c.find_one-left.new.scores (map score_of list)) given
           (put.scores_stand first (sym kept.end) kept.scores_stand);
       ends_stand = kept.ends_stand;
-      asked = kept.asked;
+      questions = kept.questions;
       stop = (omega (arith, cut.0, put.ids_len), inside, omega (arith, kept.end, put.behind), omega (arith, long, cut.1));
     })
 
@@ -91,14 +91,14 @@ loop-done-preserved c =
     let from = c.loop-done.position.end in
     let end = c.find_one-left.result.0.end in
     let first = lists_of entries vertices skip (take done queries) in
-    let asked = c.in-Ok.question in
-    let last = drop c.loop-done.position.skip (answers_to entries asked) in
+    let question = c.in-Ok.question in
+    let last = drop c.loop-done.position.skip (answers_to entries question) in
     let whole = put.whole (search rules) in
-    let is = list_is entries vertices skip (get_or queries done no_query) asked (sym (ap result_ok c.question.ensures) ∙ ap result_ok c.in-Ok.is) in
+    let is = list_is entries vertices skip (get_or queries done no_query) question (sym (ap result_ok c.question.ensures) ∙ ap result_ok c.in-Ok.is) in
     let both : lists_of entries vertices skip (take (done + 1) queries) ≡ first ++ last =
     lists_more entries vertices skip queries done no_query inside
     ∙ ap (λ list. first ++ drop (skip - length (flat_map (list_of entries vertices) (take done queries))) list) is
-    ∙ ap (λ n. first ++ drop n (answers_to entries asked)) (sym kept.skip) in
+    ∙ ap (λ n. first ++ drop n (answers_to entries question)) (sym kept.skip) in
     let long : end ≡ length (lists_of entries vertices skip (take (done + 1) queries)) =
     omega (arith, ap length both, length-append first last, kept.end, whole) in
     let given : first ++ take (end - from) last ≡ lists_of entries vertices skip (take (done + 1) queries) =
@@ -106,7 +106,7 @@ loop-done-preserved c =
     record {
       bound = search rules;
       capacity = search rules;
-      worked = finds_next c.args.tree.now vertices skip (length c.args.ids.now) queries done no_query inside c.loop-done.position asked
+      worked = finds_next c.args.tree.now vertices skip (length c.args.ids.now) queries done no_query inside c.loop-done.position question
           (length c.loop-done.ids) c.args.frontier.opened c.loop-done.frontier.opened c.find_one-left.result.1.opened kept.skip kept.end
           (omega (arith, kept.place, kept.ids_len)) kept.ids_len (sym (ap result_ok c.question.ensures) ∙ ap result_ok c.in-Ok.is) kept.worked
           c.find_one-left.ensures.worked;
@@ -122,7 +122,7 @@ loop-done-preserved c =
           (put.scores_stand first (sym kept.end) kept.scores_stand);
       ends_stand = subst (Begins c.put_at.new.array) (ends_more entries vertices skip queries done end long)
           (c.put_at.ensures.put _ (ends_len entries vertices skip queries done) kept.ends_stand);
-      asked = all_more (λ query. IsSome (question_of vertices query)) queries done no_query inside kept.asked
+      questions = all_more (λ query. IsSome (question_of vertices query)) queries done no_query inside kept.questions
           (ap is_some (sym (ap result_ok c.question.ensures) ∙ ap result_ok c.in-Ok.is));
     }
 

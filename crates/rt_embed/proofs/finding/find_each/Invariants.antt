@@ -21,7 +21,7 @@ invariant-loop-done l = record {
   ids_stand : Begins l.ids (map id_of (lists_of l.tree.entries l.vertices l.fn.skip (take l.done l.queries)));
   scores_stand : Begins l.scores (map score_of (lists_of l.tree.entries l.vertices l.fn.skip (take l.done l.queries)));
   ends_stand : Begins l.ends (ends_of l.tree.entries l.vertices l.fn.skip l.queries l.done);
-  asked : All (λ query. IsSome (question_of l.vertices query)) (take l.done l.queries);
+  questions : All (λ query. IsSome (question_of l.vertices query)) (take l.done l.queries);
 }
 
 abbrev pub decreases-loop-done : goal.decreases-loop-done

@@ -11,7 +11,7 @@ invariant-loop-done l = record {
   capacity : l.frontier.capacity ≡ l.initial.frontier.capacity;
   worked : CountsOn l.initial.frontier.opened (opened_by_measures l.tree l.vertices l.measure (take l.done l.queries)) l.frontier.opened;
   measured : take l.done l.measured ≡ map (measured_of l.tree l.vertices l.measure) (take l.done l.queries);
-  asked : All (λ query. IsSome (question_of l.vertices query)) (take l.done l.queries);
+  questions : All (λ query. IsSome (question_of l.vertices query)) (take l.done l.queries);
 }
 
 abbrev pub decreases-loop-done : goal.decreases-loop-done

@@ -4,12 +4,12 @@ use Rattle.rt_tree.proofs.tree.Tree.child_node.Goals as goal
 
 pub overflow_add-result : goal.overflow_add-result
 overflow_add-result c =
-    let asked = rw (← c.self.view_is) at c.requires in
+    let required = rw (← c.self.view_is) at c.requires in
     let sound = c.self.invariant.0 in
     omega (
       arith,
       sound.few_nodes,
-      child_inside _ c.args.no.number c.args.index c.get.result sound asked.inside c.get.ensures asked.level asked.index,
+      child_inside _ c.args.no.number c.args.index c.get.result sound required.inside c.get.ensures required.level required.index,
     )
 
 pub returns-clause-value : goal.returns-clause-value
@@ -17,6 +17,6 @@ returns-clause-value c = grind (arith, elements)
 
 pub returns-clause-inside : goal.returns-clause-inside
 returns-clause-inside c =
-    let asked = rw (← c.self.view_is) at c.requires in
-    rw (← c.self.view_is) (child_inside _ c.args.no.number c.args.index c.get.result c.self.invariant.0 asked.inside c.get.ensures
-    asked.level asked.index)
+    let required = rw (← c.self.view_is) at c.requires in
+    rw (← c.self.view_is) (child_inside _ c.args.no.number c.args.index c.get.result c.self.invariant.0 required.inside c.get.ensures
+    required.level required.index)
