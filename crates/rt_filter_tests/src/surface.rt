@@ -1,4 +1,4 @@
-//! The public calls as other crates write them who name rt_filter alone: words, std's readers and writers, and slices.
+//! The public calls as a crate writes them that names rt_filter alone: words, std's readers and writers, and slices.
 
 use crate::expect::expect_eq;
 use crate::given::{BOXES, FIND, FOUND};
