@@ -100,7 +100,7 @@ class Confinement(Case):
         )
         wrapped.chmod(0o700)
         Path(program).with_name("rtfilter-prefork.so").rename(wrapped.with_name("rtfilter-prefork.so"))
-        service = self.served(BOXES, "--connections", "2", "--tcp", "0", "--silence", "9", program=str(wrapped))
+        service = self.served(BOXES, "--connections", "2", "--tcp", "0", program=str(wrapped))
         queries = b"find all\nx\nnearest 2 12 12\n"
         for _ in range(3):
             self.assertEqual(service.ask(queries), output_of_program(BOXES, queries))

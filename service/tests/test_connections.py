@@ -213,10 +213,10 @@ class Askers(Case):
         """One who says nothing for so long is ended; one who says something now and then isn't."""
         service = self.served(BOXES, "--silence", "0.6", "--tcp", "0")
         with service.connect() as silent, service.connect() as asker, socket.create_connection(service.tcp) as other:
-            for at in range(1, 6):
+            for at in range(1, 16):
                 asker.sendall(b"count all\n")
                 self.assertEqual(read_lines(asker, 1), b"ok %d 5\n" % at)
-                time.sleep(0.3)
+                time.sleep(0.1)
             for ended in (silent, other):
                 self.assertEqual((ended.recv(100), ended.recv(1)), (b"rtfilter-serve: silent for 0.6 seconds\n", b""))
             self.assertEqual(len(service.logs(r"status=4 seconds=[01]\.\d{3}$", 2)), 2)
@@ -300,14 +300,17 @@ class Askers(Case):
 
     def test_kill_meets_one_connection(self) -> None:
         service = self.served()
-        with service.connect() as one, service.connect() as two:
-            for asker in (one, two):
-                asker.sendall(b"count all\n")
-                self.assertEqual(read_lines(asker, 1), b"ok 1 5\n")
-            os.kill(min(service.connections), signal.SIGKILL)
-            self.assertEqual(one.recv(1), b"")
-            two.sendall(b"count all\n")
-            self.assertEqual(read_lines(two, 1), b"ok 2 5\n")
+        with service.connect() as one:
+            one.sendall(b"count all\n")
+            self.assertEqual(read_lines(one, 1), b"ok 1 5\n")
+            (first,) = service.connections
+            with service.connect() as two:
+                two.sendall(b"count all\n")
+                self.assertEqual(read_lines(two, 1), b"ok 1 5\n")
+                os.kill(first, signal.SIGKILL)
+                self.assertEqual(one.recv(1), b"")
+                two.sendall(b"count all\n")
+                self.assertEqual(read_lines(two, 1), b"ok 2 5\n")
         service.logs(r"^connection 1 \(.*\): signal=9 ")
         self.assert_well(service)
 
@@ -329,7 +332,7 @@ class WantOfRoom(Case):
         with service.connect() as asker:
             asker.sendall(b"count all\n")
             self.assertEqual(read_lines(asker, 1), b"ok 1 5\n")
-            before = service.open_files
+            before = service.files_at_rest()
             flag.touch()
             for _ in range(5):
                 with service.connect() as other:
@@ -339,7 +342,7 @@ class WantOfRoom(Case):
             asker.sendall(b"count all\n")
             self.assertEqual(read_lines(asker, 1), b"ok 2 5\n")
             self.assert_well(service)
-            self.assertEqual(service.open_files, before)
+            until(lambda: service.open_files == before, "nothing left open")
 
     def test_a_load_without_a_process(self) -> None:
         """Why there is no table, or why the new one isn't taken, is told."""
@@ -351,7 +354,7 @@ class WantOfRoom(Case):
         self.assertEqual(service.log, f"listening on {service.path}\n{why}\n")
         flag.unlink()
         service = self.served(env=environment)
-        before = service.open_files
+        before = service.files_at_rest()
         flag.touch()
         service.signal(signal.SIGHUP)
         service.logs(f"^the new table isn't taken, the old one stays: {why}$")
@@ -403,8 +406,7 @@ class WantOfRoom(Case):
         with contextlib.ExitStack() as stack:
             askers = [stack.enter_context(service.connect()) for _ in range(40)]
             service.logs("^no connection accepted: Too many open files$")
-            open_ones = len(service.connections)
-            self.assertIn(open_ones, range(10, 24))
+            until(lambda: len(service.connections) in range(10, 24), "a process for each that was accepted")
             spent = sum(map(times_of, processes))
             time.sleep(1)
             self.assertLess(sum(map(times_of, processes)) - spent, 0.1)

@@ -2,10 +2,8 @@
 
 import os
 import random
-import re
 import signal
 import socket
-import sys
 import threading
 import time
 import unittest
@@ -13,7 +11,7 @@ from pathlib import Path
 from typing import Any
 
 from served import (
-    BOXES, PROGRAM, TRIES, Case, Served, answers, is_there, put_library, read_lines, send, table_of, until,
+    BOXES, PROGRAM, TRIES, Case, answers, is_there, put_library, read_lines, send, stop, table_of, until,
 )  # fmt: skip
 
 
@@ -32,7 +30,7 @@ class Ends(Case):
                     self.assertEqual(read_lines(asker, 1), b"ok 1 100000\n")
                 reads_nothing.sendall(b"find all\n" * 50)
                 until(lambda: len(service.connections) == 4, "all of them")
-                os.kill(service.connections[-1], signal.SIGSTOP)
+                stop(service.connections[-1:])
                 processes = service.processes
                 begun = time.monotonic()
                 service.signal(signal.SIGTERM)
@@ -63,11 +61,12 @@ class Ends(Case):
         self.assertEqual(len(service.logs(r"^connection \d \(.*\): status=[04] ", 3)), 3)
 
     def test_an_end_that_is_urgent(self) -> None:
-        service = self.served(table_of(self.folder, "many", 0, 100_000), "--drain", "60")
+        service = self.served(table_of(self.folder, "many", 0, 100_000), "--drain", "60", "--health", "0")
         with service.connect() as reads_nothing:
             reads_nothing.sendall(b"find all\n" * 50)
             self.assertTrue(reads_nothing.recv(1))
             service.signal(signal.SIGTERM)
+            until(lambda: service.metric("rtfilter_ready") == 0, "the end of the table")
             time.sleep(0.5)
             self.assertIsNone(service.process.poll())
             service.signal(signal.SIGINT)
@@ -230,11 +229,10 @@ class Ends(Case):
         table.write_bytes(BOXES.read_bytes())
         service = self.served(table)
         table.unlink()
-        send(signal.SIGKILL, service.programs)
-        service.logs(f"^the new table isn't taken, there is none: {table}: cannot open table: No such file or directory$", 4)
         begun = time.monotonic()
-        service.logs("there is none", 5)
-        self.assertGreater(time.monotonic() - begun, 0.5)
+        send(signal.SIGKILL, service.programs)
+        service.logs(f"^the new table isn't taken, there is none: {table}: cannot open table: No such file or directory$", 5)
+        self.assertGreater(time.monotonic() - begun, 0.1 + 0.2 + 0.4 + 0.8)
         with service.connect() as asker:
             table.write_bytes(BOXES.read_bytes())
             begun = time.monotonic()
@@ -252,7 +250,7 @@ class Ends(Case):
     def test_a_program_that_is_stopped(self) -> None:
         """It doesn't stop an exchange for ever."""
         service = self.served()
-        send(signal.SIGSTOP, service.programs)
+        stop(service.programs)
         service.exchange()
         self.assert_well(service)
         until(lambda: len(service.programs) == 1, "the end of the old program")
@@ -276,7 +274,7 @@ class Ends(Case):
     def test_a_first_load_that_takes_too_long(self) -> None:
         table = Path(self.folder, "table")
         os.mkfifo(table)
-        service = self.served(table, "--load-timeout", "0.3")
+        service = self.served(table, "--load-timeout", "0.3", is_ready=False)
         self.assertEqual(service.process.wait(10), 1)
         service.logs(f"^{table}: not loaded in 0.3 seconds$")
 

@@ -147,31 +147,38 @@ class Exchanges(Case):
         until(lambda: len(service.programs) == 1, "the end of the old table")
         self.assertEqual((service.log.count("is exchanged"), service.log.count("exchange waits")), (2, 1))
 
-    def slow_program(self, seconds: float) -> str:
-        """A program that takes a while to load."""
-        slow = Path(self.folder, "slow")
-        slow.write_text(f'#!/bin/sh\nsleep {seconds}\nexec {PROGRAM} "$@"\n')
+    def slow_program(self) -> tuple[str, Path]:
+        """A program that begins to load its table once a file is there, and the file."""
+        slow, may_load = Path(self.folder, "slow"), Path(self.folder, "may load")
+        slow.write_text(f"#!/bin/sh\nwhile ! test -e '{may_load}'; do sleep 0.05; done\nexec {PROGRAM} \"$@\"\n")
         slow.chmod(0o700)
         put_library(Path(self.folder))
-        return str(slow)
+        return str(slow), may_load
 
     def test_while_it_is_loaded(self) -> None:
         """The old table answers; who asks for another one meanwhile has it loaded afterwards."""
-        service = self.served(self.table, program=self.slow_program(0.7))
+        program, may_load = self.slow_program()
+        may_load.touch()
+        service = self.served(self.table, program=program)
+        may_load.unlink()
         self.put("7,0,1,0,1\n")
         service.signal(signal.SIGHUP)
         until(lambda: len(service.programs) == 2, "the load")
         self.assertEqual(service.ask(b"count all"), b"ok 1 5\n")
-        self.assertNotIn("the table is exchanged", service.log)
         service.signal(signal.SIGHUP)
+        service.logs("^the exchange waits until another one is over$")
+        self.assertNotIn("the table is exchanged", service.log)
+        may_load.touch()
         service.logs("^the table is exchanged: 1 boxes$", 2)
         self.assertEqual(service.ask(b"find all"), b"7 0\nok 1 1\n")
 
     def test_a_signal_to_all_processes(self) -> None:
         """As systemctl kill sends it, or a terminal that hangs up: none of them ends by it, not while it is loaded either."""
-        service = self.served(self.table, program=self.slow_program(0.3), is_ready=False)
+        program, may_load = self.slow_program()
+        service = self.served(self.table, program=program, is_ready=False)
         until(lambda: service.programs, "the load")
         send(signal.SIGHUP, service.processes)
+        may_load.touch()
         service.logs("^the table is exchanged: 5 boxes$")
         with service.connect() as asker:
             for at in range(1, 4):
@@ -184,16 +191,16 @@ class Exchanges(Case):
         self.assert_well(service)
 
     def test_faulty_tables(self) -> None:
-        """They change nothing, are told in one line, and leave nothing; so do a FIFO and one that is too slow."""
-        service = self.served(self.table, "--load-timeout", "0.4")
-        before = service.open_files
+        """They change nothing, are told in one line, and leave nothing; so does a FIFO."""
+        service = self.served(self.table, "--load-timeout", "2")
+        before = service.files_at_rest()
         with service.connect() as asker:
             for at, (text, reason) in enumerate(
                 (
                     ("1,0,1,0,1\n1,0,1,0,1\n", "table record 2: repeated id"),
                     ("1,1,0,0,1\n", "table record 1: minimum above maximum in x"),
                     (None, "cannot open table: No such file or directory"),
-                    ("FIFO", "not loaded in 0.4 seconds"),
+                    ("FIFO", "not loaded in 2 seconds"),
                 ),
                 1,
             ):
@@ -210,7 +217,7 @@ class Exchanges(Case):
                 self.assertEqual(len(service.log.splitlines()), lines + 1)
                 self.assertEqual(len(service.programs), 1)
                 self.assertEqual(service.ask(b"find all"), output_of_program(BOXES, b"find all"))
-                service.logs("status=0 ", at)
+                service.logs("status=0 ", at + 1)
             self.table.unlink()
             self.table.write_text("7,0,1,0,1\n")
             service.exchange()
@@ -220,7 +227,7 @@ class Exchanges(Case):
 
     def test_a_load_that_has_no_end(self) -> None:
         """More and more rows come: the load is ended, with all processes that it has."""
-        service = self.served(self.table, "--load-timeout", "0.5")
+        service = self.served(self.table, "--load-timeout", "2")
         self.table.unlink()
         os.mkfifo(self.table)
         is_over = threading.Event()
@@ -237,21 +244,22 @@ class Exchanges(Case):
 
         with all_of([threading.Thread(target=write)]):
             service.signal(signal.SIGHUP)
-            service.logs("not loaded in 0.5 seconds$")
+            service.logs("not loaded in 2 seconds$")
             is_over.set()
         self.assertEqual(len(service.programs), 1)
         self.assert_well(service)
 
     def test_nothing_is_left_of_old_tables(self) -> None:
         service = self.served(self.table)
+        before = service.files_at_rest()
         service.exchange()
         until(lambda: len(service.programs) == 1, "the end of the old table")
-        before, memory = service.open_files, service.memory
+        memory = service.memory
         for at in range(1, 21):
             service.exchange()
             self.assertEqual(service.ask(b"count all\n"), b"ok 1 5\n")
         until(lambda: len(service.programs) == 1, "the end of old tables")
-        self.assertEqual(service.open_files, before)
+        until(lambda: service.open_files == before, "nothing left open")
         self.assertLess(service.memory - memory, 2000)
 
     def is_answered(self, service: Served) -> bool:

@@ -281,7 +281,7 @@ class Surroundings(Case):
                 signal.signal(number, signal.SIG_IGN)
             signal.pthread_sigmask(signal.SIG_BLOCK, signal.valid_signals())
 
-        service = self.served(BOXES, "--load-timeout", "0.3", preexec_fn=prepare)
+        service = self.served(preexec_fn=prepare)
         self.assert_well(service)
         with service.connect() as asker:
             asker.sendall(b"count all\n")
