@@ -232,6 +232,12 @@ class Case(unittest.TestCase):
         subprocess.run(["cc", "-shared", "-fPIC", "-o", library, source], check=True)
         return {**os.environ, "LD_PRELOAD": str(library), "FLAG": str(flag)}, flag
 
+    def count(self, *askers: socket.socket, at: int = 1, boxes: int = 5) -> None:
+        """Each of these connections is answered how many boxes there are, which is its line `at`."""
+        for asker in askers:
+            asker.sendall(b"count all\n")
+            self.assertEqual(read_lines(asker, 1), b"ok %d %d\n" % (at, boxes))
+
     def assert_well(self, service: Served) -> None:
         """Others are answered, and soon."""
         begun = time.monotonic()

@@ -20,14 +20,11 @@ class Ends(Case):
         """With a connection that reads nothing, one that is silent, one that is stopped, and one to the old table."""
         service = self.served(table_of(self.folder, "many", 0, 100_000), "--tcp", "0", "--drain", "1")
         with service.connect() as old:
-            old.sendall(b"count all\n")
-            read_lines(old, 1)
+            self.count(old, boxes=100_000)
             service.exchange()
             stopped = self.enterContext(socket.create_connection(service.tcp))
             with service.connect() as silent, service.connect() as reads_nothing:
-                for asker in (silent, stopped):
-                    asker.sendall(b"count all\n")
-                    self.assertEqual(read_lines(asker, 1), b"ok 1 100000\n")
+                self.count(silent, stopped, boxes=100_000)
                 reads_nothing.sendall(b"find all\n" * 50)
                 until(lambda: len(service.connections) == 4, "all of them")
                 stop(service.connections[-1:])
@@ -134,9 +131,7 @@ class Ends(Case):
         """All end with it, and the path is free for another one."""
         service = self.served()
         with service.connect() as asker, service.connect() as other:
-            for one in (asker, other):
-                one.sendall(b"count all\n")
-                read_lines(one, 1)
+            self.count(asker, other)
             service.exchange()
             processes = service.processes
             self.assertEqual(len(processes), 5)
@@ -151,18 +146,14 @@ class Ends(Case):
         service = self.served(BOXES, "--connections", "2")
         for at in range(1, 4):
             with service.connect() as one, service.connect() as two:
-                for asker in (one, two):
-                    asker.sendall(b"count all\n")
-                    read_lines(asker, 1)
+                self.count(one, two)
                 send(signal.SIGKILL, service.programs)
                 self.assertEqual((one.recv(1), two.recv(1)), (b"", b""))
             self.assertEqual(service.ask(b"count all\n"), b"ok 1 5\n")
             service.logs("^the program has ended, with status -9: those who connect wait ", at)
             service.logs("^ready again: 5 boxes$", at)
         with service.connect() as one, service.connect() as two:  # no slot was lost
-            for asker in (one, two):
-                asker.sendall(b"count all\n")
-                self.assertEqual(read_lines(asker, 1), b"ok 1 5\n")
+            self.count(one, two)
 
     def test_a_connection_whose_process_is_long_in_ending(self) -> None:
         """It has ended for its peer once that is told, by whatever it is still held."""
@@ -218,8 +209,7 @@ class Ends(Case):
         until(lambda: len(service.programs) == 1, "one program")
         askers = [service.connect() for _ in range(3)]
         for asker in askers:
-            asker.sendall(b"count all\n")
-            self.assertEqual(read_lines(asker, 1), b"ok 1 5\n")
+            self.count(asker)
         for asker in askers:
             asker.close()
 
@@ -237,8 +227,7 @@ class Ends(Case):
             table.write_bytes(BOXES.read_bytes())
             begun = time.monotonic()
             service.signal(signal.SIGHUP)
-            asker.sendall(b"count all\n")
-            self.assertEqual(read_lines(asker, 1), b"ok 1 5\n")
+            self.count(asker)
             self.assertLess(time.monotonic() - begun, 1)
         for at in range(2):  # and it is a short one again
             service.exchange()

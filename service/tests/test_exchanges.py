@@ -77,8 +77,7 @@ class Exchanges(Case):
             self.put("7,0,1,0,1\n")
             service.exchange()
             for at in range(2, 5):
-                old.sendall(b"count all\n")
-                self.assertEqual(read_lines(old, 1), b"ok %d 5\n" % at)
+                self.count(old, at=at)
                 self.assertEqual(service.ask(b"find all"), b"7 0\nok 1 1\n")
             self.assertEqual(len(service.programs), 2)
         until(lambda: len(service.programs) == 1, "the end of the old table")
@@ -87,35 +86,29 @@ class Exchanges(Case):
     def test_the_limit_counts_both_tables(self) -> None:
         service = self.served(self.table, "--connections", "3")
         with service.connect() as one, service.connect() as two:
-            for asker in (one, two):
-                asker.sendall(b"count all\n")
-                read_lines(asker, 1)
+            self.count(one, two)
             (old,) = service.programs
             service.exchange()
             with service.connect() as three:
-                three.sendall(b"count all\n")
-                self.assertEqual(read_lines(three, 1), b"ok 1 5\n")
+                self.count(three)
                 with service.connect() as four:
                     self.assertEqual(four.recv(100), b"rtfilter-serve: refused, there are 3 connections\n")
                 two.shutdown(socket.SHUT_WR)
                 self.assertEqual(two.recv(1), b"")
                 with service.connect() as four:
-                    four.sendall(b"count all\n")
-                    self.assertEqual(read_lines(four, 1), b"ok 1 5\n")
+                    self.count(four)
                     # What the old program takes with it is free again.
                     os.kill(old, signal.SIGKILL)
                     self.assertEqual(one.recv(1), b"")
                     until(lambda: len(service.programs) == 1, "the end of the old table")
                     with service.connect() as five:
-                        five.sendall(b"count all\n")
-                        self.assertEqual(read_lines(five, 1), b"ok 1 5\n")
+                        self.count(five)
 
     def test_drain(self) -> None:
         """What is left to the old table after that is ended, and told."""
         service = self.served(self.table, "--drain", "0.5")
         with service.connect() as old, service.connect() as other:
-            old.sendall(b"count all\n")
-            read_lines(old, 1)
+            self.count(old)
             service.exchange()
             begun = time.monotonic()
             self.assertEqual(old.recv(1), b"")
@@ -129,8 +122,7 @@ class Exchanges(Case):
         """Who asks for a third has it once the first one's connections have ended; any number of times is once."""
         service = self.served(self.table)
         with service.connect() as old:
-            old.sendall(b"count all\n")
-            read_lines(old, 1)
+            self.count(old)
             self.put("7,0,1,0,1\n")
             service.exchange()
             self.put("8,0,1,0,1\n9,0,1,0,1\n")
@@ -140,8 +132,7 @@ class Exchanges(Case):
             service.logs("^the exchange waits ")
             self.assertEqual(len(service.programs), 2)
             self.assertEqual(service.ask(b"find all"), b"7 0\nok 1 1\n")
-            old.sendall(b"count all\n")
-            self.assertEqual(read_lines(old, 1), b"ok 2 5\n")
+            self.count(old, at=2)
         service.logs("^the table is exchanged: 2 boxes$")
         self.assertEqual(service.ask(b"find all"), b"8 0\n9 0\nok 1 2\n")
         until(lambda: len(service.programs) == 1, "the end of the old table")
@@ -182,8 +173,7 @@ class Exchanges(Case):
         service.logs("^the table is exchanged: 5 boxes$")
         with service.connect() as asker:
             for at in range(1, 4):
-                asker.sendall(b"count all\n")
-                self.assertEqual(read_lines(asker, 1), b"ok %d 5\n" % at)
+                self.count(asker, at=at)
                 send(signal.SIGHUP, service.processes)
         service.logs("^the table is exchanged", 3)
         service.logs(r"^connection 1 \(.*\): status=0 ")
@@ -212,8 +202,7 @@ class Exchanges(Case):
                 lines = len(service.log.splitlines())
                 service.signal(signal.SIGHUP)
                 service.logs(f"^the new table isn't taken, the old one stays: {self.table}: {reason}$")
-                asker.sendall(b"count all\n")
-                self.assertEqual(read_lines(asker, 1), b"ok %d 5\n" % at)
+                self.count(asker, at=at)
                 self.assertEqual(len(service.log.splitlines()), lines + 1)
                 self.assertEqual(len(service.programs), 1)
                 self.assertEqual(service.ask(b"find all"), output_of_program(BOXES, b"find all"))

@@ -42,12 +42,10 @@ class Health(Case):
         service.ask(b"x\n")
         with contextlib.ExitStack() as stack:
             one = stack.enter_context(service.connect())
-            one.sendall(b"count all\n")
-            read_lines(one, 1)
+            self.count(one)
             (first,) = service.connections
             two = stack.enter_context(service.connect())
-            two.sendall(b"count all\n")
-            read_lines(two, 1)
+            self.count(two)
             with service.connect() as three:
                 three.recv(1)
             os.kill(first, signal.SIGKILL)
@@ -104,8 +102,7 @@ class Health(Case):
         service.exchange()
         with service.connect() as asker:
             for at in range(1, 4):
-                asker.sendall(b"count all\n")
-                read_lines(asker, 1)
+                self.count(asker, at=at)
                 until(lambda: service.metric("rtfilter_lines_answered_total") == 7 + at, "a line")
         with open(table, "a") as more:
             more.write("6,0,1,0,1\n")
@@ -118,13 +115,11 @@ class Health(Case):
         """From a read of lines to the next read: a search and its writes, and no wait for lines."""
         service = self.served(table_of(self.folder, "many", 0, 100_000), "--health", "0")
         with service.connect() as asker:
-            asker.sendall(b"count all\n")
-            read_lines(asker, 1)
+            self.count(asker, boxes=100_000)
             until(lambda: service.metric("rtfilter_lines_answered_total") == 1, "a line")
             before = service.metric("rtfilter_busy_seconds_total")
             time.sleep(1)
-            asker.sendall(b"count all\n")
-            read_lines(asker, 1)
+            self.count(asker, at=2, boxes=100_000)
             until(lambda: service.metric("rtfilter_lines_answered_total") == 2, "a line")
             self.assertLess(service.metric("rtfilter_busy_seconds_total") - before, 0.5)
             begun = time.monotonic()
