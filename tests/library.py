@@ -37,7 +37,7 @@ WARNINGS = ["-Wall", "-Wextra", "-Wpedantic", "-Werror"]
 LONGEST = 300  # seconds of one command
 AT_ONCE = 2  # checks
 LINES, TABLES = 100_000, 20  # random lines in all, over so many tables
-INSTRUCTIONS = {  # of a query in C, by its kind (tests/library/queries.c), how many are asked, and the room for answers
+INSTRUCTIONS = {  # of a query in C, by its kind (tests/library/queries.c), how many are asked, and the capacity for answers
     ("window", 300, 64): 4326,
     ("window on", 300, 64): 8896,
     ("covers", 300, 64): 2681,
@@ -398,15 +398,15 @@ class Checks:
         text = (ROOT / "docs/library.md").read_text(encoding="utf-8")
         examples = re.findall(EXAMPLE % "c", text, re.MULTILINE)
         same(len(examples), text.count("```c\n") - 1, "examples that show what they print")
-        room = self.room("page")
-        shutil.copy(ROOT / "examples/data/layers.csv", room)
+        scratch = self.scratch("page")
+        shutil.copy(ROOT / "examples/data/layers.csv", scratch)
         for at, (code, printed) in enumerate(examples):
-            source = room / f"{at}.c"
+            source = scratch / f"{at}.c"
             has_own = "rtfilter_session session" in code
             source.write_text(PAGE_PROGRAM % (("", code, "") if has_own else (OPENED, code, "rtfilter_close(session);\n")))
-            run("cc", "-std=c11", "-Wall", "-Wextra", "-Werror", f"-I{self.prefix}/include", "-o", room / str(at), source,
+            run("cc", "-std=c11", "-Wall", "-Wextra", "-Werror", f"-I{self.prefix}/include", "-o", scratch / str(at), source,
                 f"-L{self.prefix}/lib", "-lrtfilter", "-lm", f"-Wl,-rpath,{self.prefix}/lib", *self.libraries)  # fmt: skip
-            same(run(room / str(at), cwd=room), printed, code)
+            same(run(scratch / str(at), cwd=scratch), printed, code)
 
     # - each call
 
@@ -414,14 +414,14 @@ class Checks:
         run(self.built("calls.c"), self.folder)
 
     def check_calls_by_sanitizers(self):
-        self.sanitized("calls.c", "-fsanitize=address,undefined", self.room("sanitized"))
+        self.sanitized("calls.c", "-fsanitize=address,undefined", self.scratch("sanitized"))
 
     def check_calls_by_valgrind(self):
         wants("valgrind")
         run("valgrind", "-q", "--error-exitcode=9", "--leak-check=full", "--errors-for-leak-kinds=all", "--show-leak-kinds=all",
-            "--child-silent-after-fork=yes", self.built("calls.c", "-DVALGRIND"), self.room("valgrind"))  # fmt: skip
+            "--child-silent-after-fork=yes", self.built("calls.c", "-DVALGRIND"), self.scratch("valgrind"))  # fmt: skip
 
-    def room(self, name):
+    def scratch(self, name):
         """A folder with the table, of one check."""
         folder = self.folder / name
         folder.mkdir()
@@ -451,11 +451,11 @@ class Checks:
             run(wrapper, self.folder / "boxes.csv")
         program, printed = self.page("include/README.md", "cpp")
         wants("pkg-config")
-        room, words = self.room("page-cpp"), {**os.environ, "PKG_CONFIG_PATH": f"{self.prefix}/lib/pkgconfig", "LD_LIBRARY_PATH": f"{self.prefix}/lib"}
-        (room / "boxes.cpp").write_text(program)
+        scratch, words = self.scratch("page-cpp"), {**os.environ, "PKG_CONFIG_PATH": f"{self.prefix}/lib/pkgconfig", "LD_LIBRARY_PATH": f"{self.prefix}/lib"}
+        (scratch / "boxes.cpp").write_text(program)
         (typed,) = re.findall(r"^\$ (c\+\+ .*)$", (ROOT / "include/README.md").read_text(encoding="utf-8"), re.MULTILINE)
-        run("sh", "-c", f"{typed} {' '.join([*WARNINGS, *self.libraries])}", cwd=room, env=words)
-        same(run(room / "boxes", cwd=room, env=words), printed)
+        run("sh", "-c", f"{typed} {' '.join([*WARNINGS, *self.libraries])}", cwd=scratch, env=words)
+        same(run(scratch / "boxes", cwd=scratch, env=words), printed)
 
     # - what is refused
 
@@ -488,11 +488,11 @@ class Checks:
         run(self.built("allocations.c"))
 
     def check_instructions(self):
-        """What queries in numbers take. Work that is done twice, or for answers that have no room, shows here alone."""
+        """What queries in numbers take. Work that is done twice, or for answers beyond the capacity, shows here alone."""
         wants("valgrind")
         program, found = self.built("queries.c"), {}
-        for (kind, number, room), stored in INSTRUCTIONS.items():
-            one, many = (self.instructions(program, kind, count, room) for count in (0, number))
+        for (kind, number, capacity), stored in INSTRUCTIONS.items():
+            one, many = (self.instructions(program, kind, count, capacity) for count in (0, number))
             found[kind] = (many - one) // number
         wrong = {kind: (found[kind], stored) for (kind, _, _), stored in INSTRUCTIONS.items()
                  if abs(found[kind] - stored) > MORE * stored}  # fmt: skip

@@ -68,7 +68,13 @@ def some_line() -> Random:
 
 
 @pytest.fixture
-def serve(tmp_path: Path) -> Iterator[Serve]:
+def logged() -> list[str]:
+    """What services have logged until they were ready."""
+    return []
+
+
+@pytest.fixture
+def serve(tmp_path: Path, logged: list[str]) -> Iterator[Serve]:
     """Starts a service for a table, and gives the path of its socket."""
     services: list[subprocess.Popen[str]] = []
 
@@ -78,8 +84,8 @@ def serve(tmp_path: Path) -> Iterator[Serve]:
         services.append(subprocess.Popen(words, stderr=subprocess.PIPE, text=True))
         log = services[-1].stderr
         assert log is not None
-        said = [*until("ready", log)]
-        assert said and "ready" in said[-1], said
+        logged.extend(until("ready", log))
+        assert logged and "ready" in logged[-1], logged
         return path
 
     yield serve

@@ -3,12 +3,15 @@
 import asyncio
 import os
 import pickle
+import re
+import signal
 import socket
 import subprocess
 import sys
 import threading
 import time
-from collections.abc import Iterator
+from collections.abc import Callable, Iterator
+from contextlib import suppress
 from pathlib import Path
 from typing import Any
 
@@ -24,6 +27,7 @@ class Fake:
     def __init__(self, path: Path) -> None:
         self.path = path
         self.acts: list[Any] = []
+        self.received, self.closed = threading.Event(), threading.Event()  # a query; a connection
         self._socket = socket.socket(socket.AF_UNIX)
         self._socket.bind(str(path))
         self._socket.listen()
@@ -38,6 +42,12 @@ class Fake:
                 return
             with connection:
                 self.acts.pop(0)(connection)
+            self.closed.set()
+
+    def be_silent(self, connection: socket.socket) -> None:
+        """Reads until the other side ends, and notes that something came."""
+        while connection.recv(1000):
+            self.received.set()
 
     def close(self) -> None:
         self._socket.shutdown(socket.SHUT_RDWR)
@@ -70,9 +80,34 @@ def say(text: bytes) -> Any:
     return act
 
 
-def be_silent(connection: socket.socket) -> None:
-    while connection.recv(1000):
-        pass
+def alarm(fake: Fake, call: Callable[[], None]) -> None:
+    """Makes a call in a handler of a signal, once a query has come: again and again, since a signal that comes just before a wait
+    is handled after the wait."""
+
+    def handle(*_: Any) -> None:
+        if fake.received.is_set():
+            signal.setitimer(signal.ITIMER_REAL, 0)
+            call()
+
+    signal.signal(signal.SIGALRM, handle)
+    signal.setitimer(signal.ITIMER_REAL, 0.05, 0.05)
+
+
+@pytest.fixture
+def own_alarms() -> Iterator[None]:
+    """The handler of SIGALRM is put back."""
+    before = signal.getsignal(signal.SIGALRM)
+    yield
+    signal.setitimer(signal.ITIMER_REAL, 0)
+    signal.signal(signal.SIGALRM, before)
+
+
+def in_time(client: Client) -> int:
+    """A count by a client with a short time: the first that has its reply in time."""
+    for _ in range(100):
+        with suppress(TimedOut):
+            return client.count(All())
+    raise AssertionError("no reply in time")
 
 
 def test_calls(client: Client, boxes: Rtfilter) -> None:
@@ -88,17 +123,15 @@ def test_calls(client: Client, boxes: Rtfilter) -> None:
         with pytest.raises(error):
             client.count(All(), on=on)  # type: ignore[arg-type]
     with pytest.raises(TypeError):
-        client.find(All(), All())  # type: ignore[call-overload]
+        client.find(All(), All())  # type: ignore[arg-type]
     with pytest.raises(TypeError, match="a client can't be pickled"):
         pickle.dumps(client)
 
 
-def test_tcp(data: Path, tmp_path: Path, serve: Serve) -> None:
-    with socket.socket() as free:
-        free.bind(("127.0.0.1", 0))
-        port = free.getsockname()[1]
-    serve(data / "boxes.csv", "--tcp", str(port))
-    with Client(("127.0.0.1", port), timeout=20) as client:
+def test_tcp(data: Path, serve: Serve, logged: list[str]) -> None:
+    serve(data / "boxes.csv", "--tcp", "0")
+    (port,) = re.findall(r"listening on 127\.0\.0\.1:(\d+)", "".join(logged))
+    with Client(("127.0.0.1", int(port)), timeout=20) as client:
         assert client.count(All()) == 5
 
 
@@ -163,22 +196,22 @@ def test_a_service_that_closed_between_two_calls(fake: Fake) -> None:
     fake.acts = [lambda it: it.sendall(b"ok 1 7\n" + 0 * it.recv(100)), answer]
     with Client(fake.path, timeout=20) as client:
         assert client.count(All()) == 7
-        time.sleep(0.2)
+        assert fake.closed.wait(20)
         assert client.count(All()) == 7
 
 
 def test_a_silent_service(fake: Fake) -> None:
-    fake.acts = [be_silent, answer]
+    fake.acts = [fake.be_silent, *[answer] * 100]
     with Client(fake.path, timeout=0.3) as client:
         begun = time.monotonic()
         with pytest.raises(TimedOut, match="no reply in 0.3 seconds") as raised:
             client.find(All())
         assert 0.2 < time.monotonic() - begun < 5 and isinstance(raised.value, TimeoutError)
-        assert client.count(All()) == 7
+        assert in_time(client) == 7
 
 
 def test_one_deadline_holds_for_the_turn_too(fake: Fake) -> None:
-    fake.acts = [be_silent, be_silent]
+    fake.acts = [fake.be_silent] * 8
     client = Client(fake.path, timeout=0.5)
     raised: list[float] = []
 
@@ -188,53 +221,43 @@ def test_one_deadline_holds_for_the_turn_too(fake: Fake) -> None:
             client.find(All())
         raised.append(time.monotonic() - begun)
 
-    threads = [threading.Thread(target=ask) for _ in range(2)]
+    threads = [threading.Thread(target=ask) for _ in range(8)]
     for it in threads:
         it.start()
     for it in threads:
         it.join()
-    assert len(raised) == 2 and max(raised) < 2
+    assert len(raised) == 8 and max(raised) < 2
     client.close()
 
 
+@pytest.mark.usefixtures("own_alarms")
 def test_broken_off_calls_close_the_connection(fake: Fake) -> None:
-    import signal
-
-    def interrupt(*_: Any) -> None:
+    def interrupt() -> None:
         raise KeyboardInterrupt
 
-    fake.acts = [be_silent, answer]
-    before = signal.signal(signal.SIGALRM, interrupt)
-    try:
-        with Client(fake.path) as client:
-            signal.setitimer(signal.ITIMER_REAL, 0.1)
-            with pytest.raises(KeyboardInterrupt):
-                client.find(All())
-            assert client.count(All()) == 7
-    finally:
-        signal.signal(signal.SIGALRM, before)
+    fake.acts = [fake.be_silent, answer]
+    with Client(fake.path) as client:
+        alarm(fake, interrupt)
+        with pytest.raises(KeyboardInterrupt):
+            client.find(All())
+        assert client.count(All()) == 7
 
 
+@pytest.mark.usefixtures("own_alarms")
 def test_a_call_in_the_middle_of_a_call(fake: Fake) -> None:
-    import signal
-
     raised: list[BaseException] = []
-    fake.acts = [be_silent]
+    fake.acts = [fake.be_silent]
     client = Client(fake.path, timeout=1)
 
-    def ask(*_: Any) -> None:
+    def ask() -> None:
         try:
             client.count(All())
         except BaseException as error:
             raised.append(error)
 
-    before = signal.signal(signal.SIGALRM, ask)
-    try:
-        signal.setitimer(signal.ITIMER_REAL, 0.1)
-        with pytest.raises(TimedOut):
-            client.find(All())
-    finally:
-        signal.signal(signal.SIGALRM, before)
+    alarm(fake, ask)
+    with pytest.raises(TimedOut):
+        client.find(All())
     assert [*map(type, raised)] == [RuntimeError]
 
 
@@ -263,16 +286,18 @@ def test_closed(client: Client) -> None:
 
 
 def test_asyncio(fake: Fake) -> None:
-    fake.acts = [say(REASON), be_silent, be_silent, answer]
+    fake.acts = [fake.be_silent, say(REASON), fake.be_silent, answer]
 
     async def ask() -> None:
         async with aio.Client(fake.path, timeout=0.3) as client:
-            with pytest.raises(Disconnected, match="silent for 600 seconds"):
-                await client.find(All())
             with pytest.raises(TimedOut, match="no reply in 0.3 seconds"):
                 await client.find(All())
+        async with aio.Client(fake.path, timeout=20) as client:
+            with pytest.raises(Disconnected, match="silent for 600 seconds"):
+                await client.find(All())
+            fake.received.clear()
             task = asyncio.create_task(client.find(All()))
-            await asyncio.sleep(0.1)
+            await asyncio.to_thread(fake.received.wait, 20)
             task.cancel()
             with pytest.raises(asyncio.CancelledError):
                 await task

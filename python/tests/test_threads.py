@@ -10,6 +10,7 @@ from typing import Any
 
 import numpy
 import pytest
+from support import LONGEST
 
 from rtfilter import All, Rtfilter, Window
 
@@ -97,9 +98,9 @@ def test_a_signal_is_met_between_parts(table: Rtfilter, windows: Any, name: str)
     before = signal.signal(signal.SIGALRM, interrupt)
     try:
         for _ in range(3):
-            signal.setitimer(signal.ITIMER_REAL, 0.05)
             begun = time.monotonic()
             with pytest.raises(KeyboardInterrupt):
+                signal.setitimer(signal.ITIMER_REAL, 0.05)
                 call()
             assert time.monotonic() - begun < 1.5
             assert table.find(Window(*windows[0].tolist())) == table.find_each(windows[:1])[1].tolist()
@@ -121,7 +122,9 @@ def test_a_close_in_the_middle_of_calls(windows: Any) -> None:
     with threads_that(find, find, find_many, lambda: [table.text(b"find all\n")] and None) as raised:
         time.sleep(0.2)
         table.close()
-        time.sleep(0.1)
+        until = time.monotonic() + LONGEST
+        while len(raised) < 4 and time.monotonic() < until:
+            time.sleep(0.01)
     assert len(raised) == 4 and {(type(it), str(it)) for it in raised} == {(ValueError, "the table was closed")}
 
 

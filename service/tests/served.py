@@ -41,22 +41,24 @@ def until(is_so: Callable[[], object], what: str) -> None:
         time.sleep(0.005)
 
 
+def state_of(process: int) -> tuple[str, int]:
+    """The state of a process, as proc(5) has it, and its parent. The state of one that isn't there is X."""
+    try:
+        state, parent = Path(f"/proc/{process}/stat").read_text().rpartition(")")[2].split()[:2]
+        return state, int(parent)
+    except (FileNotFoundError, ProcessLookupError):
+        return "X", 0
+
+
 def children_of(process: int) -> list[int]:
     """The processes that a process has started, those of all of its threads, and that haven't ended."""
-    found = []
-    for other in Path("/proc").glob("[0-9]*"):
-        with contextlib.suppress(FileNotFoundError, ProcessLookupError):  # it has ended meanwhile
-            state, parent = (other / "stat").read_text().rpartition(")")[2].split()[:2]
-            found += [int(other.name)] * (int(parent) == process and state != "Z")
-    return found
+    states = {int(other.name): state_of(int(other.name)) for other in Path("/proc").glob("[0-9]*")}
+    return [other for other, (state, parent) in states.items() if parent == process and state != "Z"]
 
 
 def is_there(process: int) -> bool:
     """Whether a process runs: one that has ended may still be waited for."""
-    try:
-        return Path(f"/proc/{process}/stat").read_text().rpartition(")")[2].split()[0] not in "ZX"
-    except (FileNotFoundError, ProcessLookupError):
-        return False
+    return state_of(process)[0] not in "ZX"
 
 
 def found(pattern: str, text: str, flags: int = 0) -> re.Match[str]:
@@ -72,6 +74,13 @@ def send(number: int, processes: Iterable[int]) -> None:
     for process in processes:
         with contextlib.suppress(ProcessLookupError):
             os.kill(process, number)
+
+
+def stop(processes: Iterable[int]) -> None:
+    """Stops processes, and waits until they are stopped."""
+    stopped = [*processes]
+    send(signal.SIGSTOP, stopped)
+    until(lambda: all(state_of(it)[0] == "T" for it in stopped), "the stop")
 
 
 def put_library(folder: Path) -> None:
@@ -162,6 +171,13 @@ class Served:
         """How many, of the service and of its programs."""
         return [len(os.listdir(f"/proc/{process}/fd")) for process in [self.process.pid, *self.programs]]
 
+    def files_at_rest(self) -> list[int]:
+        """`open_files` once nothing is under way: a connection that comes after all that has ended, and is logged."""
+        ended = len(re.findall("^connection ", self.log, re.MULTILINE))
+        self.ask(b"")
+        self.logs("^connection ", ended + 1)
+        return self.open_files
+
     @property
     def memory(self) -> int:
         """KiB that are resident, of the service and its programs."""
@@ -215,6 +231,12 @@ class Case(unittest.TestCase):
         source.write_text(text)
         subprocess.run(["cc", "-shared", "-fPIC", "-o", library, source], check=True)
         return {**os.environ, "LD_PRELOAD": str(library), "FLAG": str(flag)}, flag
+
+    def count(self, *askers: socket.socket, at: int = 1, boxes: int = 5) -> None:
+        """Each of these connections is answered how many boxes there are, which is its line `at`."""
+        for asker in askers:
+            asker.sendall(b"count all\n")
+            self.assertEqual(read_lines(asker, 1), b"ok %d %d\n" % (at, boxes))
 
     def assert_well(self, service: Served) -> None:
         """Others are answered, and soon."""

@@ -9,7 +9,7 @@ import subprocess
 import unittest
 from pathlib import Path
 
-from served import BOXES, FLAGS, SOURCE, TRIES, Case, found, output_of_program, read_lines, table_of, until
+from served import BOXES, FLAGS, SOURCE, TRIES, Case, found, output_of_program, table_of, until
 
 CALLS = {"read", "write", "munmap", "brk", "exit_group"}
 ERROR_OF_VALGRIND = 99
@@ -23,8 +23,7 @@ class Confinement(Case):
         names = ["open", "openat", "socket", "mmap", "more", "high", "fork", "execve", "kill", "x32", "i386"]
         for name in names:
             with self.subTest(name), service.connect() as asker:
-                asker.sendall(b"count all\n")
-                self.assertEqual(read_lines(asker, 1), b"ok 1 5\n")
+                self.count(asker)
                 asker.sendall(f"# {name}\ncount all\n".encode())
                 self.assertEqual(asker.recv(100), b"")
         self.assertEqual(len(service.logs(rf"signal={signal.SIGSYS:d} ", len(names))), len(names))
@@ -36,8 +35,7 @@ class Confinement(Case):
         program none of these."""
         service = self.served()
         with service.connect() as asker:
-            asker.sendall(b"count all\n")
-            read_lines(asker, 1)
+            self.count(asker)
             for (process,), score, filter in ((service.connections, "1000", 2), (service.programs, "0", 0)):
                 status = Path(f"/proc/{process}/status").read_text()
                 self.assertEqual(int(found(r"Seccomp:\t(\d)", status)[1]), filter)
@@ -51,8 +49,7 @@ class Confinement(Case):
         """Of what it shares, one page can be written, in which lines are counted."""
         service = self.served(BOXES, "--connections", "100000")
         with service.connect() as asker:
-            asker.sendall(b"count all\n")
-            read_lines(asker, 1)
+            self.count(asker)
             maps = Path(f"/proc/{service.connections[0]}/maps").read_text()
             self.assertIn(" rw-p ", maps)
             shared = [line for line in maps.splitlines() if line.split()[1][3] == "s"]
@@ -69,8 +66,7 @@ class Confinement(Case):
         service = self.served(table)
         trace = Path(self.folder, "trace")
         with service.connect() as asker:
-            asker.sendall(b"count all\n")
-            read_lines(asker, 1)
+            self.count(asker, boxes=100_000)
             (process,) = service.connections
             with open(trace, "w") as file:
                 tracer = subprocess.Popen(["strace", "-p", str(process)], stderr=file)
@@ -100,14 +96,12 @@ class Confinement(Case):
         )
         wrapped.chmod(0o700)
         Path(program).with_name("rtfilter-prefork.so").rename(wrapped.with_name("rtfilter-prefork.so"))
-        service = self.served(BOXES, "--connections", "2", "--tcp", "0", "--silence", "9", program=str(wrapped))
+        service = self.served(BOXES, "--connections", "2", "--tcp", "0", program=str(wrapped))
         queries = b"find all\nx\nnearest 2 12 12\n"
         for _ in range(3):
             self.assertEqual(service.ask(queries), output_of_program(BOXES, queries))
         with service.connect() as one, service.connect() as two:
-            for asker in (one, two):
-                asker.sendall(b"count all\n")
-                self.assertEqual(read_lines(asker, 1), b"ok 1 5\n")
+            self.count(one, two)
             with service.connect() as three:
                 self.assertTrue(three.recv(100).startswith(b"rtfilter-serve: refused"))
             service.exchange()

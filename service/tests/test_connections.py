@@ -112,8 +112,7 @@ class SameAsProgram(Case):
         for asker in (service.connect(), socket.create_connection(("::1", service.tcp[1]))):
             with asker:
                 for at in range(1, 201):
-                    asker.sendall(b"count all\n")
-                    self.assertEqual(read_lines(asker, 1), b"ok %d 5\n" % at)
+                    self.count(asker, at=at)
 
     def test_a_byte_at_a_time(self) -> None:
         service = self.served()
@@ -213,10 +212,9 @@ class Askers(Case):
         """One who says nothing for so long is ended; one who says something now and then isn't."""
         service = self.served(BOXES, "--silence", "0.6", "--tcp", "0")
         with service.connect() as silent, service.connect() as asker, socket.create_connection(service.tcp) as other:
-            for at in range(1, 6):
-                asker.sendall(b"count all\n")
-                self.assertEqual(read_lines(asker, 1), b"ok %d 5\n" % at)
-                time.sleep(0.3)
+            for at in range(1, 16):
+                self.count(asker, at=at)
+                time.sleep(0.1)
             for ended in (silent, other):
                 self.assertEqual((ended.recv(100), ended.recv(1)), (b"rtfilter-serve: silent for 0.6 seconds\n", b""))
             self.assertEqual(len(service.logs(r"status=4 seconds=[01]\.\d{3}$", 2)), 2)
@@ -227,14 +225,12 @@ class Askers(Case):
         for words in ((), ("--silence", "5", "--patience", "5")):
             service = self.served(BOXES, *words)
             with service.connect() as asker:
-                asker.sendall(b"count all\n")
-                read_lines(asker, 1)
+                self.count(asker)
                 (process,) = service.connections
                 for number in (signal.SIGSTOP, signal.SIGCONT):
                     os.kill(process, number)
                     time.sleep(0.05)
-                asker.sendall(b"count all\n")
-                self.assertEqual(read_lines(asker, 1), b"ok 2 5\n")
+                self.count(asker, at=2)
             service.__exit__()
 
     def test_2000_connections_leave_nothing(self) -> None:
@@ -268,25 +264,21 @@ class Askers(Case):
     def test_the_limit_on_connections(self) -> None:
         service = self.served(BOXES, "--connections", "2")
         with service.connect() as one, service.connect() as two:
-            for asker in (one, two):
-                asker.sendall(b"count all\n")
-                self.assertEqual(read_lines(asker, 1), b"ok 1 5\n")
+            self.count(one, two)
             with service.connect() as three:
                 self.assertEqual((three.recv(100), three.recv(1)), (b"rtfilter-serve: refused, there are 2 connections\n", b""))
             service.logs(r"^connection 3 \(.*\): refused, there are 2 connections$")
             one.shutdown(socket.SHUT_WR)
             self.assertEqual(one.recv(1), b"")
             self.assert_well(service)
-            two.sendall(b"count all\n")
-            self.assertEqual(read_lines(two, 1), b"ok 2 5\n")
+            self.count(two, at=2)
 
     def test_one_connection_after_another(self) -> None:
         """Whoever sees the end of a connection may connect again, by whatever it has ended."""
         service = self.served(BOXES, "--connections", "1")
         for at in range(300):
             with service.connect() as asker:
-                asker.sendall(b"count all\n")
-                self.assertEqual(read_lines(asker, 1), b"ok 1 5\n")
+                self.count(asker)
                 if at % 3 == 0:
                     send(signal.SIGKILL, service.connections)
                 elif at % 3 == 1:
@@ -300,14 +292,14 @@ class Askers(Case):
 
     def test_kill_meets_one_connection(self) -> None:
         service = self.served()
-        with service.connect() as one, service.connect() as two:
-            for asker in (one, two):
-                asker.sendall(b"count all\n")
-                self.assertEqual(read_lines(asker, 1), b"ok 1 5\n")
-            os.kill(min(service.connections), signal.SIGKILL)
-            self.assertEqual(one.recv(1), b"")
-            two.sendall(b"count all\n")
-            self.assertEqual(read_lines(two, 1), b"ok 2 5\n")
+        with service.connect() as one:
+            self.count(one)
+            (first,) = service.connections
+            with service.connect() as two:
+                self.count(two)
+                os.kill(first, signal.SIGKILL)
+                self.assertEqual(one.recv(1), b"")
+                self.count(two, at=2)
         service.logs(r"^connection 1 \(.*\): signal=9 ")
         self.assert_well(service)
 
@@ -327,19 +319,17 @@ class WantOfRoom(Case):
         environment, flag = self.preload(NO_FORK)
         service = self.served(BOXES, "--connections", "2", env=environment)
         with service.connect() as asker:
-            asker.sendall(b"count all\n")
-            self.assertEqual(read_lines(asker, 1), b"ok 1 5\n")
-            before = service.open_files
+            self.count(asker)
+            before = service.files_at_rest()
             flag.touch()
             for _ in range(5):
                 with service.connect() as other:
                     self.assertEqual(other.recv(1), b"")
             service.logs(r"^connection \d+ \(.*\): not begun: Resource temporarily unavailable$", 5)
             flag.unlink()
-            asker.sendall(b"count all\n")
-            self.assertEqual(read_lines(asker, 1), b"ok 2 5\n")
+            self.count(asker, at=2)
             self.assert_well(service)
-            self.assertEqual(service.open_files, before)
+            until(lambda: service.open_files == before, "nothing left open")
 
     def test_a_load_without_a_process(self) -> None:
         """Why there is no table, or why the new one isn't taken, is told."""
@@ -351,7 +341,7 @@ class WantOfRoom(Case):
         self.assertEqual(service.log, f"listening on {service.path}\n{why}\n")
         flag.unlink()
         service = self.served(env=environment)
-        before = service.open_files
+        before = service.files_at_rest()
         flag.touch()
         service.signal(signal.SIGHUP)
         service.logs(f"^the new table isn't taken, the old one stays: {why}$")
@@ -385,14 +375,12 @@ class WantOfRoom(Case):
         with contextlib.ExitStack() as stack:
             askers = [stack.enter_context(service.connect()) for _ in range(3)]  # beside two threads of the service, and its program
             for asker in askers:
-                asker.sendall(b"count all\n")
-                self.assertEqual(read_lines(asker, 1), b"ok 1 5\n")
+                self.count(asker)
             with service.connect() as other:
                 self.assertEqual(other.recv(1), b"")
             service.logs(r"^connection 4 \(.*\): not begun: Resource temporarily unavailable$")
             for asker in askers:
-                asker.sendall(b"count all\n")
-                self.assertEqual(read_lines(asker, 1), b"ok 2 5\n")
+                self.count(asker, at=2)
         service.logs("status=0 ", 3)
         self.assert_well(service)
 
@@ -403,15 +391,13 @@ class WantOfRoom(Case):
         with contextlib.ExitStack() as stack:
             askers = [stack.enter_context(service.connect()) for _ in range(40)]
             service.logs("^no connection accepted: Too many open files$")
-            open_ones = len(service.connections)
-            self.assertIn(open_ones, range(10, 24))
+            until(lambda: len(service.connections) in range(10, 24), "a process for each that was accepted")
             spent = sum(map(times_of, processes))
             time.sleep(1)
             self.assertLess(sum(map(times_of, processes)) - spent, 0.1)
             self.assertEqual(service.log.count("no connection accepted"), 1)
             for asker in askers:  # each comes in turn, as others leave
-                asker.sendall(b"count all\n")
-                self.assertEqual(read_lines(asker, 1), b"ok 1 5\n")
+                self.count(asker)
                 asker.close()
         service.logs("status=0 ", 40)
         self.assert_well(service)
@@ -425,8 +411,7 @@ class WantOfRoom(Case):
             service.exchange()
             self.assertEqual(service.get("/health"), (200, "ready\n"))
             for asker in askers:
-                asker.sendall(b"count all\n")
-                self.assertEqual(read_lines(asker, 1), b"ok 1 5\n")
+                self.count(asker)
                 asker.close()
         until(lambda: len(service.programs) == 1, "the end of the old table")
 

@@ -9,7 +9,7 @@ import sys
 import time
 import unittest
 
-from served import BOXES, LONG, MOMENT, Case, Served, is_there, read_lines, send, table_of, until
+from served import BOXES, LONG, MOMENT, Case, Served, is_there, read_lines, send, stop, table_of, until
 
 # A service whose program has told its size and ended, both before the service looks.
 ENDING = """
@@ -59,7 +59,7 @@ class Control(Case):
     def test_a_program_that_is_stopped_for_a_while(self) -> None:
         """Who connects waits."""
         service = self.served(BOXES, "--connections", str(MANY))
-        send(signal.SIGSTOP, service.programs)
+        stop(service.programs)
         askers = self.opened(service, MANY)
         time.sleep(0.3)
         self.assertEqual(service.connections, [])
@@ -70,7 +70,7 @@ class Control(Case):
     def test_a_program_that_takes_nothing_and_ends(self) -> None:
         """What it was given, and hasn't taken, is another one's."""
         service = self.served(BOXES, "--connections", "100")
-        send(signal.SIGSTOP, service.programs)
+        stop(service.programs)
         askers = self.opened(service, 100)
         time.sleep(0.3)
         send(signal.SIGKILL, service.programs)
@@ -82,7 +82,7 @@ class Control(Case):
         """Its connections are kept no longer than it takes to see that."""
         table = table_of(self.folder, "table", 0, 5)
         service = self.served(table, "--connections", "100")
-        send(signal.SIGSTOP, service.programs)
+        stop(service.programs)
         askers = self.opened(service, 100)
         time.sleep(0.3)
         table_of(self.folder, "table", 0, 7)
@@ -92,10 +92,10 @@ class Control(Case):
 
     def test_a_program_that_takes_nothing_and_a_service_that_ends(self) -> None:
         """Who waits is told of, too."""
-        service = self.served(BOXES, "--drain", "1")
-        send(signal.SIGSTOP, service.programs)
+        service = self.served(BOXES, "--drain", "1", "--health", "0")
+        stop(service.programs)
         askers = self.opened(service, 3)
-        time.sleep(0.3)
+        until(lambda: service.metric("rtfilter_connections") == 3, "all of them")
         service.signal(signal.SIGTERM)
         self.assertEqual(service.process.wait(10), 0)
         self.assertEqual(len(service.logs(r"^connection [123] \(.*\): signal=9 ", 3)), 3)
@@ -123,7 +123,7 @@ class Control(Case):
         service = self.served(BOXES, "--connections", str(MANY))
         askers = self.opened(service, MANY)
         self.assert_answered(askers)
-        service.signal(signal.SIGSTOP)
+        stop([service.process.pid])
         for at, asker in enumerate(askers):
             if at % 3:
                 asker.shutdown(socket.SHUT_WR)
@@ -147,8 +147,7 @@ class Control(Case):
                 service = self.served()
                 self.assert_answered(self.opened(service, 3))
                 processes = service.processes
-                for at in before:
-                    os.kill(processes[at], signal.SIGSTOP)
+                stop(processes[at] for at in before)
                 for at in (first, second):
                     os.kill(processes[at], signal.SIGKILL)
                 service.process.wait(10)

@@ -2,10 +2,8 @@
 
 import os
 import random
-import re
 import signal
 import socket
-import sys
 import threading
 import time
 import unittest
@@ -13,7 +11,7 @@ from pathlib import Path
 from typing import Any
 
 from served import (
-    BOXES, PROGRAM, TRIES, Case, Served, answers, is_there, put_library, read_lines, send, table_of, until,
+    BOXES, PROGRAM, TRIES, Case, answers, is_there, put_library, read_lines, send, stop, table_of, until,
 )  # fmt: skip
 
 
@@ -22,17 +20,14 @@ class Ends(Case):
         """With a connection that reads nothing, one that is silent, one that is stopped, and one to the old table."""
         service = self.served(table_of(self.folder, "many", 0, 100_000), "--tcp", "0", "--drain", "1")
         with service.connect() as old:
-            old.sendall(b"count all\n")
-            read_lines(old, 1)
+            self.count(old, boxes=100_000)
             service.exchange()
             stopped = self.enterContext(socket.create_connection(service.tcp))
             with service.connect() as silent, service.connect() as reads_nothing:
-                for asker in (silent, stopped):
-                    asker.sendall(b"count all\n")
-                    self.assertEqual(read_lines(asker, 1), b"ok 1 100000\n")
+                self.count(silent, stopped, boxes=100_000)
                 reads_nothing.sendall(b"find all\n" * 50)
                 until(lambda: len(service.connections) == 4, "all of them")
-                os.kill(service.connections[-1], signal.SIGSTOP)
+                stop(service.connections[-1:])
                 processes = service.processes
                 begun = time.monotonic()
                 service.signal(signal.SIGTERM)
@@ -63,11 +58,12 @@ class Ends(Case):
         self.assertEqual(len(service.logs(r"^connection \d \(.*\): status=[04] ", 3)), 3)
 
     def test_an_end_that_is_urgent(self) -> None:
-        service = self.served(table_of(self.folder, "many", 0, 100_000), "--drain", "60")
+        service = self.served(table_of(self.folder, "many", 0, 100_000), "--drain", "60", "--health", "0")
         with service.connect() as reads_nothing:
             reads_nothing.sendall(b"find all\n" * 50)
             self.assertTrue(reads_nothing.recv(1))
             service.signal(signal.SIGTERM)
+            until(lambda: service.metric("rtfilter_ready") == 0, "the end of the table")
             time.sleep(0.5)
             self.assertIsNone(service.process.poll())
             service.signal(signal.SIGINT)
@@ -135,9 +131,7 @@ class Ends(Case):
         """All end with it, and the path is free for another one."""
         service = self.served()
         with service.connect() as asker, service.connect() as other:
-            for one in (asker, other):
-                one.sendall(b"count all\n")
-                read_lines(one, 1)
+            self.count(asker, other)
             service.exchange()
             processes = service.processes
             self.assertEqual(len(processes), 5)
@@ -152,18 +146,14 @@ class Ends(Case):
         service = self.served(BOXES, "--connections", "2")
         for at in range(1, 4):
             with service.connect() as one, service.connect() as two:
-                for asker in (one, two):
-                    asker.sendall(b"count all\n")
-                    read_lines(asker, 1)
+                self.count(one, two)
                 send(signal.SIGKILL, service.programs)
                 self.assertEqual((one.recv(1), two.recv(1)), (b"", b""))
             self.assertEqual(service.ask(b"count all\n"), b"ok 1 5\n")
             service.logs("^the program has ended, with status -9: those who connect wait ", at)
             service.logs("^ready again: 5 boxes$", at)
         with service.connect() as one, service.connect() as two:  # no slot was lost
-            for asker in (one, two):
-                asker.sendall(b"count all\n")
-                self.assertEqual(read_lines(asker, 1), b"ok 1 5\n")
+            self.count(one, two)
 
     def test_a_connection_whose_process_is_long_in_ending(self) -> None:
         """It has ended for its peer once that is told, by whatever it is still held."""
@@ -219,8 +209,7 @@ class Ends(Case):
         until(lambda: len(service.programs) == 1, "one program")
         askers = [service.connect() for _ in range(3)]
         for asker in askers:
-            asker.sendall(b"count all\n")
-            self.assertEqual(read_lines(asker, 1), b"ok 1 5\n")
+            self.count(asker)
         for asker in askers:
             asker.close()
 
@@ -230,17 +219,15 @@ class Ends(Case):
         table.write_bytes(BOXES.read_bytes())
         service = self.served(table)
         table.unlink()
-        send(signal.SIGKILL, service.programs)
-        service.logs(f"^the new table isn't taken, there is none: {table}: cannot open table: No such file or directory$", 4)
         begun = time.monotonic()
-        service.logs("there is none", 5)
-        self.assertGreater(time.monotonic() - begun, 0.5)
+        send(signal.SIGKILL, service.programs)
+        service.logs(f"^the new table isn't taken, there is none: {table}: cannot open table: No such file or directory$", 5)
+        self.assertGreater(time.monotonic() - begun, 0.1 + 0.2 + 0.4 + 0.8)
         with service.connect() as asker:
             table.write_bytes(BOXES.read_bytes())
             begun = time.monotonic()
             service.signal(signal.SIGHUP)
-            asker.sendall(b"count all\n")
-            self.assertEqual(read_lines(asker, 1), b"ok 1 5\n")
+            self.count(asker)
             self.assertLess(time.monotonic() - begun, 1)
         for at in range(2):  # and it is a short one again
             service.exchange()
@@ -252,7 +239,7 @@ class Ends(Case):
     def test_a_program_that_is_stopped(self) -> None:
         """It doesn't stop an exchange for ever."""
         service = self.served()
-        send(signal.SIGSTOP, service.programs)
+        stop(service.programs)
         service.exchange()
         self.assert_well(service)
         until(lambda: len(service.programs) == 1, "the end of the old program")
@@ -276,7 +263,7 @@ class Ends(Case):
     def test_a_first_load_that_takes_too_long(self) -> None:
         table = Path(self.folder, "table")
         os.mkfifo(table)
-        service = self.served(table, "--load-timeout", "0.3")
+        service = self.served(table, "--load-timeout", "0.3", is_ready=False)
         self.assertEqual(service.process.wait(10), 1)
         service.logs(f"^{table}: not loaded in 0.3 seconds$")
 

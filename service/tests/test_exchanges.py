@@ -77,8 +77,7 @@ class Exchanges(Case):
             self.put("7,0,1,0,1\n")
             service.exchange()
             for at in range(2, 5):
-                old.sendall(b"count all\n")
-                self.assertEqual(read_lines(old, 1), b"ok %d 5\n" % at)
+                self.count(old, at=at)
                 self.assertEqual(service.ask(b"find all"), b"7 0\nok 1 1\n")
             self.assertEqual(len(service.programs), 2)
         until(lambda: len(service.programs) == 1, "the end of the old table")
@@ -87,35 +86,29 @@ class Exchanges(Case):
     def test_the_limit_counts_both_tables(self) -> None:
         service = self.served(self.table, "--connections", "3")
         with service.connect() as one, service.connect() as two:
-            for asker in (one, two):
-                asker.sendall(b"count all\n")
-                read_lines(asker, 1)
+            self.count(one, two)
             (old,) = service.programs
             service.exchange()
             with service.connect() as three:
-                three.sendall(b"count all\n")
-                self.assertEqual(read_lines(three, 1), b"ok 1 5\n")
+                self.count(three)
                 with service.connect() as four:
                     self.assertEqual(four.recv(100), b"rtfilter-serve: refused, there are 3 connections\n")
                 two.shutdown(socket.SHUT_WR)
                 self.assertEqual(two.recv(1), b"")
                 with service.connect() as four:
-                    four.sendall(b"count all\n")
-                    self.assertEqual(read_lines(four, 1), b"ok 1 5\n")
+                    self.count(four)
                     # What the old program takes with it is free again.
                     os.kill(old, signal.SIGKILL)
                     self.assertEqual(one.recv(1), b"")
                     until(lambda: len(service.programs) == 1, "the end of the old table")
                     with service.connect() as five:
-                        five.sendall(b"count all\n")
-                        self.assertEqual(read_lines(five, 1), b"ok 1 5\n")
+                        self.count(five)
 
     def test_drain(self) -> None:
         """What is left to the old table after that is ended, and told."""
         service = self.served(self.table, "--drain", "0.5")
         with service.connect() as old, service.connect() as other:
-            old.sendall(b"count all\n")
-            read_lines(old, 1)
+            self.count(old)
             service.exchange()
             begun = time.monotonic()
             self.assertEqual(old.recv(1), b"")
@@ -129,8 +122,7 @@ class Exchanges(Case):
         """Who asks for a third has it once the first one's connections have ended; any number of times is once."""
         service = self.served(self.table)
         with service.connect() as old:
-            old.sendall(b"count all\n")
-            read_lines(old, 1)
+            self.count(old)
             self.put("7,0,1,0,1\n")
             service.exchange()
             self.put("8,0,1,0,1\n9,0,1,0,1\n")
@@ -140,43 +132,48 @@ class Exchanges(Case):
             service.logs("^the exchange waits ")
             self.assertEqual(len(service.programs), 2)
             self.assertEqual(service.ask(b"find all"), b"7 0\nok 1 1\n")
-            old.sendall(b"count all\n")
-            self.assertEqual(read_lines(old, 1), b"ok 2 5\n")
+            self.count(old, at=2)
         service.logs("^the table is exchanged: 2 boxes$")
         self.assertEqual(service.ask(b"find all"), b"8 0\n9 0\nok 1 2\n")
         until(lambda: len(service.programs) == 1, "the end of the old table")
         self.assertEqual((service.log.count("is exchanged"), service.log.count("exchange waits")), (2, 1))
 
-    def slow_program(self, seconds: float) -> str:
-        """A program that takes a while to load."""
-        slow = Path(self.folder, "slow")
-        slow.write_text(f'#!/bin/sh\nsleep {seconds}\nexec {PROGRAM} "$@"\n')
+    def slow_program(self) -> tuple[str, Path]:
+        """A program that begins to load its table once a file is there, and the file."""
+        slow, may_load = Path(self.folder, "slow"), Path(self.folder, "may load")
+        slow.write_text(f"#!/bin/sh\nwhile ! test -e '{may_load}'; do sleep 0.05; done\nexec {PROGRAM} \"$@\"\n")
         slow.chmod(0o700)
         put_library(Path(self.folder))
-        return str(slow)
+        return str(slow), may_load
 
     def test_while_it_is_loaded(self) -> None:
         """The old table answers; who asks for another one meanwhile has it loaded afterwards."""
-        service = self.served(self.table, program=self.slow_program(0.7))
+        program, may_load = self.slow_program()
+        may_load.touch()
+        service = self.served(self.table, program=program)
+        may_load.unlink()
         self.put("7,0,1,0,1\n")
         service.signal(signal.SIGHUP)
         until(lambda: len(service.programs) == 2, "the load")
         self.assertEqual(service.ask(b"count all"), b"ok 1 5\n")
-        self.assertNotIn("the table is exchanged", service.log)
         service.signal(signal.SIGHUP)
+        service.logs("^the exchange waits until another one is over$")
+        self.assertNotIn("the table is exchanged", service.log)
+        may_load.touch()
         service.logs("^the table is exchanged: 1 boxes$", 2)
         self.assertEqual(service.ask(b"find all"), b"7 0\nok 1 1\n")
 
     def test_a_signal_to_all_processes(self) -> None:
         """As systemctl kill sends it, or a terminal that hangs up: none of them ends by it, not while it is loaded either."""
-        service = self.served(self.table, program=self.slow_program(0.3), is_ready=False)
+        program, may_load = self.slow_program()
+        service = self.served(self.table, program=program, is_ready=False)
         until(lambda: service.programs, "the load")
         send(signal.SIGHUP, service.processes)
+        may_load.touch()
         service.logs("^the table is exchanged: 5 boxes$")
         with service.connect() as asker:
             for at in range(1, 4):
-                asker.sendall(b"count all\n")
-                self.assertEqual(read_lines(asker, 1), b"ok %d 5\n" % at)
+                self.count(asker, at=at)
                 send(signal.SIGHUP, service.processes)
         service.logs("^the table is exchanged", 3)
         service.logs(r"^connection 1 \(.*\): status=0 ")
@@ -184,16 +181,16 @@ class Exchanges(Case):
         self.assert_well(service)
 
     def test_faulty_tables(self) -> None:
-        """They change nothing, are told in one line, and leave nothing; so do a FIFO and one that is too slow."""
-        service = self.served(self.table, "--load-timeout", "0.4")
-        before = service.open_files
+        """They change nothing, are told in one line, and leave nothing; so does a FIFO."""
+        service = self.served(self.table, "--load-timeout", "2")
+        before = service.files_at_rest()
         with service.connect() as asker:
             for at, (text, reason) in enumerate(
                 (
                     ("1,0,1,0,1\n1,0,1,0,1\n", "table record 2: repeated id"),
                     ("1,1,0,0,1\n", "table record 1: minimum above maximum in x"),
                     (None, "cannot open table: No such file or directory"),
-                    ("FIFO", "not loaded in 0.4 seconds"),
+                    ("FIFO", "not loaded in 2 seconds"),
                 ),
                 1,
             ):
@@ -205,12 +202,11 @@ class Exchanges(Case):
                 lines = len(service.log.splitlines())
                 service.signal(signal.SIGHUP)
                 service.logs(f"^the new table isn't taken, the old one stays: {self.table}: {reason}$")
-                asker.sendall(b"count all\n")
-                self.assertEqual(read_lines(asker, 1), b"ok %d 5\n" % at)
+                self.count(asker, at=at)
                 self.assertEqual(len(service.log.splitlines()), lines + 1)
                 self.assertEqual(len(service.programs), 1)
                 self.assertEqual(service.ask(b"find all"), output_of_program(BOXES, b"find all"))
-                service.logs("status=0 ", at)
+                service.logs("status=0 ", at + 1)
             self.table.unlink()
             self.table.write_text("7,0,1,0,1\n")
             service.exchange()
@@ -220,7 +216,7 @@ class Exchanges(Case):
 
     def test_a_load_that_has_no_end(self) -> None:
         """More and more rows come: the load is ended, with all processes that it has."""
-        service = self.served(self.table, "--load-timeout", "0.5")
+        service = self.served(self.table, "--load-timeout", "2")
         self.table.unlink()
         os.mkfifo(self.table)
         is_over = threading.Event()
@@ -237,21 +233,22 @@ class Exchanges(Case):
 
         with all_of([threading.Thread(target=write)]):
             service.signal(signal.SIGHUP)
-            service.logs("not loaded in 0.5 seconds$")
+            service.logs("not loaded in 2 seconds$")
             is_over.set()
         self.assertEqual(len(service.programs), 1)
         self.assert_well(service)
 
     def test_nothing_is_left_of_old_tables(self) -> None:
         service = self.served(self.table)
+        before = service.files_at_rest()
         service.exchange()
         until(lambda: len(service.programs) == 1, "the end of the old table")
-        before, memory = service.open_files, service.memory
+        memory = service.memory
         for at in range(1, 21):
             service.exchange()
             self.assertEqual(service.ask(b"count all\n"), b"ok 1 5\n")
         until(lambda: len(service.programs) == 1, "the end of old tables")
-        self.assertEqual(service.open_files, before)
+        until(lambda: service.open_files == before, "nothing left open")
         self.assertLess(service.memory - memory, 2000)
 
     def is_answered(self, service: Served) -> bool:

@@ -40,13 +40,15 @@ class Health(Case):
         service = self.served(BOXES, "--health", "0", "--connections", "2")
         service.ask(b"count all\n")
         service.ask(b"x\n")
-        with service.connect() as one, service.connect() as two:
-            for asker in (one, two):
-                asker.sendall(b"count all\n")
-                read_lines(asker, 1)
+        with contextlib.ExitStack() as stack:
+            one = stack.enter_context(service.connect())
+            self.count(one)
+            (first,) = service.connections
+            two = stack.enter_context(service.connect())
+            self.count(two)
             with service.connect() as three:
                 three.recv(1)
-            os.kill(min(service.connections), signal.SIGKILL)
+            os.kill(first, signal.SIGKILL)
             self.assertEqual(one.recv(1), b"")
             service.exchange()
             until(lambda: service.metric("rtfilter_connections") == 1, "the end of a connection")
@@ -100,8 +102,7 @@ class Health(Case):
         service.exchange()
         with service.connect() as asker:
             for at in range(1, 4):
-                asker.sendall(b"count all\n")
-                read_lines(asker, 1)
+                self.count(asker, at=at)
                 until(lambda: service.metric("rtfilter_lines_answered_total") == 7 + at, "a line")
         with open(table, "a") as more:
             more.write("6,0,1,0,1\n")
@@ -114,17 +115,16 @@ class Health(Case):
         """From a read of lines to the next read: a search and its writes, and no wait for lines."""
         service = self.served(table_of(self.folder, "many", 0, 100_000), "--health", "0")
         with service.connect() as asker:
-            asker.sendall(b"count all\n")
-            read_lines(asker, 1)
+            self.count(asker, boxes=100_000)
             until(lambda: service.metric("rtfilter_lines_answered_total") == 1, "a line")
             before = service.metric("rtfilter_busy_seconds_total")
             time.sleep(1)
-            asker.sendall(b"count all\n")
-            read_lines(asker, 1)
+            self.count(asker, at=2, boxes=100_000)
             until(lambda: service.metric("rtfilter_lines_answered_total") == 2, "a line")
             self.assertLess(service.metric("rtfilter_busy_seconds_total") - before, 0.5)
             begun = time.monotonic()
             asker.sendall(b"find all near 0 0\n" * 5)
+            asker.recv(1, socket.MSG_PEEK)
             time.sleep(0.5)  # in which its replies wait for a reader
             read_lines(asker, 5 * 100_001)
             until(lambda: service.metric("rtfilter_lines_answered_total") == 7, "lines")
@@ -156,14 +156,14 @@ class Health(Case):
     def test_slow_and_silly_ones(self) -> None:
         """Who says nothing, too much, or reads nothing keeps nobody waiting, and is left after some seconds."""
         service = self.served(BOXES, "--health", "0")
-        (before, _) = service.open_files
+        (before, _) = service.files_at_rest()
         with contextlib.ExitStack() as stack:
             place = service.place("health")
             askers = [stack.enter_context(socket.create_connection(place)) for _ in range(200)]
-            begun = time.monotonic()
             for at, asker in enumerate(askers):
                 with contextlib.suppress(ConnectionError):
                     asker.sendall([b"", HEALTH, b"GET " + b"x" * 10_000, b"a: b\r\n" * 2000, HEALTH + b"a\n" * 100_000][at % 5])
+            begun = time.monotonic()
             self.assertEqual(service.get("/health"), (200, "ready\n"))
             self.assert_well(service)
             self.assertLess(time.monotonic() - begun, 2)

@@ -12,7 +12,7 @@ import unittest
 from pathlib import Path
 from typing import Any
 
-from served import BOXES, MOMENT, PROGRAM, ROOT, Case, found, read_lines, talk
+from served import BOXES, MOMENT, PROGRAM, ROOT, Case, found, talk
 
 PAGE = ROOT / "docs/service.md"
 UNITS = ROOT / "service/rtfilter.socket", ROOT / "service/rtfilter.service"
@@ -122,8 +122,7 @@ class AsUnit(Case):
         before = ["strace", "-f", "-qq", "-o", str(trace), "--interruptible=never"]
         service = self.served(BOXES, "--tcp", "0", "--health", "0", before=before)
         with service.connect() as asker:
-            asker.sendall(b"count all\n")
-            read_lines(asker, 1)
+            self.count(asker)
             (traced,) = service.programs
             os.kill(traced, signal.SIGHUP)
             service.logs("^the table is exchanged")

@@ -15,7 +15,7 @@ import unittest
 from pathlib import Path
 
 from served import (
-    BOXES, MOMENT, PROGRAM, SERVICE, SYSTEM_PYTHON, Case, Served, children_of, read_lines, table_of, talk, until,
+    BOXES, MOMENT, PROGRAM, SERVICE, SYSTEM_PYTHON, Case, Served, children_of, table_of, talk, until,
 )  # fmt: skip
 
 PIDFD_GETFD = 438  # a call of Linux: another process's descriptor
@@ -173,8 +173,7 @@ class Sockets(Case):
         """Its standard input and output."""
         service = self.served(BOXES, "--tcp", "0", "--health", "0")
         with service.connect() as asker:
-            asker.sendall(b"count all\n")
-            read_lines(asker, 1)
+            self.count(asker)
             (process,) = service.connections
             folder = f"/proc/{process}/fd"
             files = {name: os.readlink(f"{folder}/{name}") for name in os.listdir(folder)}
@@ -184,8 +183,7 @@ class Sockets(Case):
         """A line isn't held back for the next one, and a peer that is gone for good is noticed some day."""
         service = self.served(BOXES, "--tcp", "0")
         with socket.create_connection(service.tcp) as asker:
-            asker.sendall(b"count all\n")
-            read_lines(asker, 1)
+            self.count(asker)
             process = os.pidfd_open(*service.connections)
             self.addCleanup(os.close, process)
             descriptor = ctypes.CDLL(None, use_errno=True).syscall(PIDFD_GETFD, process, 0, 0)
@@ -264,9 +262,7 @@ class Surroundings(Case):
         for at in range(1, 3):
             (program,) = children_of(own)
             with service.connect() as one, service.connect() as two:
-                for asker in (one, two):
-                    asker.sendall(b"count all\n")
-                    self.assertEqual(read_lines(asker, 1), b"ok 1 5\n")
+                self.count(one, two)
                 self.assertEqual(len(children_of(program)), 2)
                 os.kill(program, signal.SIGKILL)
                 service.logs("^ready again", at)
@@ -281,11 +277,10 @@ class Surroundings(Case):
                 signal.signal(number, signal.SIG_IGN)
             signal.pthread_sigmask(signal.SIG_BLOCK, signal.valid_signals())
 
-        service = self.served(BOXES, "--load-timeout", "0.3", preexec_fn=prepare)
+        service = self.served(preexec_fn=prepare)
         self.assert_well(service)
         with service.connect() as asker:
-            asker.sendall(b"count all\n")
-            read_lines(asker, 1)
+            self.count(asker)
             status = Path(f"/proc/{service.connections[0]}/status").read_text()
             self.assertRegex(status, r"SigBlk:\t0+\n")
             self.assertRegex(status, r"SigCgt:\t0+\n")

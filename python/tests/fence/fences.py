@@ -51,10 +51,13 @@ class Running:
 
     def started(self) -> "Running":
         """Itself, once its zones are loaded."""
-        while (line := self.errors.next()) and not line.startswith("rtfilter-fence: zones: "):
-            pass
-        assert line, "it has ended"
+        self.logs("rtfilter-fence: zones: ")
         return self
+
+    def logs(self, begin: str) -> None:
+        """Reads on standard error up to a line that begins so."""
+        while not (line := self.errors.next()).startswith(begin):
+            assert line, "it has ended"
 
     def send(self, *lines: str) -> None:
         """Lines without their line feeds, in one write."""

@@ -2,6 +2,7 @@
 
 import errno
 import os
+import queue
 import random
 import signal
 import subprocess
@@ -90,6 +91,7 @@ def test_many_exchanges_while_positions_come(start: Start, zones: Path) -> None:
     """Each position is answered by the zones of before or of after: no event comes twice, and none is lost."""
     fence, stop = start(), threading.Event()
     seen: list[tuple[int, str, bool]] = []
+    answered: queue.SimpleQueue[int] = queue.SimpleQueue()
 
     def ask() -> None:
         chance, inside = random.Random(8), False
@@ -99,6 +101,7 @@ def test_many_exchanges_while_positions_come(start: Start, zones: Path) -> None:
             while (event := fence.events.some(1)[0])["event"] != "refused":
                 seen.append((x, event["event"], inside))
                 inside = event["event"] == "enter"
+            answered.put(moment)
             if stop.is_set():
                 return
 
@@ -107,6 +110,8 @@ def test_many_exchanges_while_positions_come(start: Start, zones: Path) -> None:
     try:
         for number in range(20):
             exchange(fence, zones, WIDER if number % 2 else PARK)
+            while answered.get(timeout=LONGEST) < 5 * number:
+                pass
     finally:
         stop.set()
         asker.join(LONGEST)
@@ -140,8 +145,7 @@ def test_a_storm_of_signals(start: Start, zones: Path) -> None:
         fence.process.send_signal(signal.SIGHUP)
     write_zones(zones, [LAKE])
     fence.process.send_signal(signal.SIGHUP)
-    while fence.errors.next() != "rtfilter-fence: zones: 1":
-        pass
+    fence.logs("rtfilter-fence: zones: 1")
     fence.send("a,25,1,1", "a,1,1,2")
     assert brief(fence.events.some(2)) == [("a", "enter", "lake"), ("a", "leave", "lake")]
     fence.process.send_signal(signal.SIGTERM)

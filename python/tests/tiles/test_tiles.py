@@ -72,16 +72,15 @@ class Tiles(Mapped):
     def some_tiles(self) -> list[tuple[int, int, int]]:
         """Tiles of each level round the middles of some boxes."""
         chance = random.Random(2)
-        rows = [[*map(int, line.split(","))] for line in self.table.read_text().splitlines()]
+        rows = rows_of(self.table)
         found = set()
         for z in (7, 9, 11, 12, 13, 14, 16, DEEPEST):
             _, x1, _, y1, _, _ = chance.choice(rows)
-            side = 2 * HALF / 2**z
-            found.add((z, int((x1 + HALF) / side), int((HALF - y1) / side)))
+            found.add((z, *tile_at(z, (x1, y1))))
         return sorted(found)
 
     def test_a_tile_has_the_boxes_of_its_window(self) -> None:
-        rows = [[*map(int, line.split(","))] for line in self.table.read_text().splitlines()]
+        rows = rows_of(self.table)
         layers = {0: "towns", 1: "motorways", 2: "main roads", 3: "minor roads", 4: "streets", 5: HOSTILE_LAYER}
         seen = 0
         for z, x, y in self.some_tiles():
@@ -128,7 +127,7 @@ class Tiles(Mapped):
         kinds = {}
         for on in ("", "?on=3,4", "?on=0"):
             for z in range(5, 11):
-                first, last = (self.tile_at(z, side) for side in self.bounds())
+                first, last = (tile_at(z, corner) for corner in self.bounds())
                 tiles = [(x, y) for x in range(first[0], last[0] + 1) for y in range(last[1], first[1] + 1)]
                 shown = {self.is_density(z, x, y, on) for x, y in tiles[:: max(1, len(tiles) // 60)]} - {None}
                 self.assertEqual(len(shown), 1, (on, z))
@@ -143,17 +142,16 @@ class Tiles(Mapped):
         hot, (x, y) = folder / "hot.csv", (1_000_000, 1_000_000)
         more = "".join(f"{1_000_000 + at},{x},{x + 100},{y},{y + 100},5\n" for at in range(6000))
         hot.write_text((folder / "boxes.csv").read_text() + more)
-        side = {z: 2 * HALF / 2**z for z in range(DEEPEST + 1)}
         with Server(folder / "boxes.csv") as plain, Server(hot) as server:
             for z in range(DEEPEST + 1):
-                across, down = int((x + HALF) / side[z]), int((HALF - y) / side[z])
+                across, down = tile_at(z, (x, y))
                 for beside in (0, 1, 2):
                     target = f"/{z}/{min(across + beside, 2**z - 1)}/{down}.pbf"
                     body, before = server.get(target)[1], plain.get(target)[1]
                     holds = beside == 0 or z == 0 or min(across + beside, 2**z - 1) == across
                     self.assertEqual(b"density" in body[:40], holds or b"density" in before[:40], target)
                     self.assertEqual(body == before, not holds, target)
-            levels = [b"density" in plain.get(f"/{z}/{int(HALF / side[z])}/{int(HALF / side[z])}.pbf")[1][:40] for z in range(9, 14)]
+            levels = [b"density" in plain.get("/%d/%d/%d.pbf" % (z, *tile_at(z, (0, 0))))[1][:40] for z in range(9, 14)]
         self.assertEqual(levels, [True, True, True, False, False])
 
     def bounds(self) -> list[tuple[int, int]]:
@@ -161,20 +159,14 @@ class Tiles(Mapped):
         x1, x2, y1, y2 = self.json("/about")["bounds"]
         return [(x1, y1), (x2, y2)]
 
-    def tile_at(self, z: int, place: tuple[int, int]) -> tuple[int, int]:
-        side = 2 * HALF / 2**z
-        return int((place[0] + HALF) / side), int((HALF - place[1]) / side)
-
     def is_density(self, z: int, x: int, y: int, on: str) -> bool | None:
         """Whether a tile has counts; None where it is empty."""
         _, tile = self.server.get(f"/{z}/{x}/{y}.pbf{on}")
         return b"density" in tile[:40] if tile else None
 
     def test_a_name_and_an_empty_tile(self) -> None:
-        (line,) = (line for line in self.table.read_text().splitlines() if line.startswith("1,"))
-        _, x1, _, y1, _, _ = map(int, line.split(","))
-        side = 2 * HALF / 2**14
-        features = self.features(14, int((x1 + HALF) / side), int((HALF - y1) / side))
+        ((_, x1, _, y1, _, _),) = (row for row in rows_of(self.table) if row[0] == 1)
+        features = self.features(14, *tile_at(14, (x1, y1)))
         self.assertIn(HOSTILE_NAME, [properties.get("name") for _, properties, _ in features])
         self.assertEqual(self.features(9, 0, 0), [])
 
@@ -192,6 +184,17 @@ class Tiles(Mapped):
                 self.assertEqual({layer for layer, _, _ in features}, {"layer 0"})
 
 
+def rows_of(table: Path) -> list[list[int]]:
+    """The records of a table, as numbers."""
+    return [[*map(int, line.split(","))] for line in table.read_text().splitlines()]
+
+
+def tile_at(z: int, place: tuple[int, int]) -> tuple[int, int]:
+    """The tile of a level that holds a place."""
+    side = 2 * HALF / 2**z
+    return int((place[0] + HALF) / side), int((HALF - place[1]) / side)
+
+
 def box_of(lines: str) -> list[float]:
     """The least box round a feature's polygon: x1, x2, y1, y2."""
     polygon = POLYGON.search(lines)
@@ -204,7 +207,7 @@ class SomeViews(Mapped):
     def test_views_at_random(self) -> None:
         """Windows with few boxes and with many, on all layers and on some."""
         chance = random.Random(4)
-        rows = [[*map(int, line.split(","))] for line in self.table.read_text().splitlines()]
+        rows = rows_of(self.table)
         with_boxes = with_counts = 0
         for _ in range(60):
             _, x, _, y, _, _ = chance.choice(rows)
@@ -241,7 +244,7 @@ class Maps(unittest.TestCase):
 
 def copy_map(table: Path) -> None:
     """Some copies of a map in one table, each a little aside, with ids of their own."""
-    rows = [[*map(int, line.split(","))] for line in table.read_text().splitlines()]
+    rows = rows_of(table)
     with open(table, "w", encoding="ascii") as file:
         for at in range(COPIES):
             for id, x1, x2, y1, y2, layer in rows:

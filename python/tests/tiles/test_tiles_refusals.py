@@ -82,8 +82,7 @@ class Refusals(Mapped):
             self.assertIsNone(re.search(rb"innerHTML|outerHTML|document\.write|insertAdjacentHTML|eval\(", body))
 
     def test_many_requests_on_a_connection(self) -> None:
-        connection = self.server.connected()
-        self.addCleanup(connection.close)
+        connection = self.connected()
         for number in range(200):
             connection.request("GET", f"/ask?q=nearest+1+{number}+5")
             self.assertEqual(len(json.loads(connection.getresponse().read())["answers"]), 1)

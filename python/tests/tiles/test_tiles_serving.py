@@ -43,7 +43,7 @@ class Serving(Mapped):
             connection.close()
 
 
-class Told(Serving):
+class Descriptions(Serving):
     def test_tile_json(self) -> None:
         tiles = self.json("/tiles.json")
         self.assertEqual(tiles["tilejson"], "3.0.0")
@@ -131,17 +131,9 @@ class Told(Serving):
 class Caches(Serving):
     def test_head(self) -> None:
         """It has the headers of GET, and no body, and the connection goes on."""
-        connection = self.server.connected()
-        self.addCleanup(connection.close)
+        connection = self.connected()
         for target in (TILE, EMPTY, "/", "/tiles.json", "/about", "/ask?q=count+all", "/nothing", "/view"):
-            heads = []
-            for method in ("GET", "HEAD"):
-                connection.request(method, target, headers={"Accept-Encoding": "gzip"})
-                reply = connection.getresponse()
-                body = reply.read()
-                heads.append((reply.status, [it for it in reply.getheaders() if it[0] != "Date"]))
-            self.assertEqual(heads[0], heads[1], target)
-            self.assertEqual(body, b"")
+            self.status_of_head(connection, target, ("Accept-Encoding", "gzip"))
 
     def test_tags(self) -> None:
         """What whoever asks has already isn't sent again, until the table is another one."""
@@ -164,23 +156,27 @@ class Caches(Serving):
 
     def test_head_of_what_is_known(self) -> None:
         """304 to lists of tags and to `*`, on one line or on two; the headers of GET, no body, and the connection goes on."""
-        connection = self.server.connected()
-        self.addCleanup(connection.close)
+        connection = self.connected()
         tag = self.response(TILE)[0].headers["ETag"].removeprefix("W/")
         for known, status in (
             (["*"], 304), ([f'"x", {tag}, "y"'], 304), ([f"W/{tag}"], 304), (['"x"', '"y"'], 200),
             ([tag[:-1]], 200), ([], 200),
         ):  # fmt: skip
-            heads = []
-            for method in ("GET", "HEAD"):
-                connection.putrequest(method, TILE)
-                for it in known:
-                    connection.putheader("If-None-Match", it)
-                connection.endheaders()
-                reply = connection.getresponse()
-                body = reply.read()
-                heads.append((reply.status, [it for it in reply.getheaders() if it[0] != "Date"]))
-            self.assertEqual((heads[0], heads[1][0], body), (heads[1], status, b""), known)
+            self.assertEqual(self.status_of_head(connection, TILE, *(("If-None-Match", it) for it in known)), status, known)
+
+    def status_of_head(self, connection: HTTPConnection, target: str, *fields: tuple[str, str]) -> int:
+        """The status of a HEAD, whose reply is that of a GET without its body."""
+        heads = []
+        for method in ("GET", "HEAD"):
+            connection.putrequest(method, target)
+            for field in fields:
+                connection.putheader(*field)
+            connection.endheaders()
+            reply = connection.getresponse()
+            body = reply.read()
+            heads.append((reply.status, [it for it in reply.getheaders() if it[0] != "Date"]))
+        self.assertEqual((heads[0], body), (heads[1], b""), target)
+        return reply.status
 
     def test_another_table_has_another_tag(self) -> None:
         folder = Path(self.enterContext(tempfile.TemporaryDirectory()))
@@ -223,8 +219,7 @@ class Caches(Serving):
             (["gzip;q=0"], None), (["*;q=0"], None), (["gzip;q=0, *"], None), (["br", "gzip"], "gzip"), (["gzip;q=0.000", "br"], None),
             (["identity;q=0, gzip;q=0.1"], "gzip"), (["GZip ; q=1.0"], "gzip"), (["a, gzip"], "gzip"), (["agzip"], None), ([], None),
         ):  # fmt: skip
-            connection = self.server.connected()
-            self.addCleanup(connection.close)
+            connection = self.connected()
             connection.putrequest("GET", TILE, skip_accept_encoding=True)
             for line in lines:
                 connection.putheader("Accept-Encoding", line)
@@ -330,7 +325,7 @@ class Reloads(unittest.TestCase):
         self.assertEqual(status, 0)
         self.assertEqual(errors.splitlines(), [
             "rtfilter-tiles: the table is exchanged: 7 boxes", "rtfilter-tiles: the table is exchanged: 9 boxes",
-            f"rtfilter-tiles: {table}: table record 6: wrong number of fields (1); the old table stays",
+            f"rtfilter-tiles: {self.table}: table record 6: wrong number of fields (1); the old table stays",
         ])  # fmt: skip
 
     def test_several_on_one_port(self) -> None:

@@ -139,6 +139,12 @@ class Mapped(unittest.TestCase):
         cls.table = folder / "boxes.csv"
         cls.server = cls.enterClassContext(Server(cls.table, *options))
 
+    def connected(self) -> HTTPConnection:
+        """A connection that is closed at the end of the test."""
+        connection = self.server.connected()
+        self.addCleanup(connection.close)
+        return connection
+
     def json(self, target: str) -> dict[str, Any]:
         reply, body = self.server.get(target)
         self.assertEqual((reply.status, reply.headers["Content-Type"]), (200, "application/json"), body)
