@@ -1,5 +1,5 @@
 -- A geometry of one's own, with scores that go up and down: what it means, and that it keeps the laws.
-use Rattle.std.specs.Prelude.{◌≡◌, ◌≤◌, ℕ, min, Bool, true, ◌==◌, if◌then◌else◌}
+use Rattle.std.specs.Prelude.{◌≡◌, ◌≤◌, min, true, ◌==◌, if◌then◌else◌}
 use Rattle.std.proofs.Common.{refl, arith}
 use Rattle.std.proofs.lemmas.Bool.Decides.{nat_tests}
 use Rattle.rt_geo.specs.Laws.{IsFaithful, IsLawful, Meaning}
