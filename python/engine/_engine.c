@@ -298,8 +298,12 @@ static PyObject *raise_refused(const request *it)
 static PyObject *whole(PyObject *number, PyObject *of)
 {
     PyObject *found = PyLong_Check(number) ? Py_NewRef(number) : PyNumber_Index(number);
-    if (!found && PyErr_ExceptionMatches(PyExc_TypeError))
-        PyErr_Format(PyExc_TypeError, "%R isn't a whole number: %R", number, of ? of : number);
+    if (!found && PyErr_ExceptionMatches(PyExc_TypeError)) {
+        if (of)
+            PyErr_Format(PyExc_TypeError, "%R isn't a whole number: %R", number, of);
+        else
+            PyErr_Format(PyExc_TypeError, "%R isn't a whole number", number);
+    }
     return found;
 }
 
@@ -592,10 +596,17 @@ static PyObject *table_nearest(Table *self, PyObject *const *args, Py_ssize_t co
         return NULL;
     if (!given[0] || !given[1] || !given[2])
         return PyErr_Format(PyExc_TypeError, "nearest takes k, x and y");
-    if (!put_limit(&it, given[0]) || !put_number(&it, given[1], NULL, &it.query.near_x, false) ||
-        !put_number(&it, given[2], NULL, &it.query.near_y, false))
-        return NULL;
-    return found(self, &it);
+    if (put_limit(&it, given[0]) && put_number(&it, given[1], NULL, &it.query.near_x, false) &&
+        put_number(&it, given[2], NULL, &it.query.near_y, false))
+        return found(self, &it);
+    if (PyErr_ExceptionMatches(query_error)) {
+        PyErr_Clear();
+        PyObject *line = PyUnicode_FromFormat("nearest %S %S %S", given[0], given[1], given[2]);
+        if (line)
+            raise_query(line, -1, "Q6", "out of range");
+        Py_XDECREF(line);
+    }
+    return NULL;
 }
 
 typedef int measure(rtfilter_session *, const rtfilter_queries *, uint64_t *, size_t *);

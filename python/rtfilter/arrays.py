@@ -3,7 +3,7 @@
 Only calls about arrays import this module, and numpy with it.
 """
 
-from collections.abc import Iterator, Sequence
+from collections.abc import Iterable, Iterator, Sequence
 from copy import copy
 from operator import index
 from typing import Any, Self
@@ -52,6 +52,8 @@ def columns_of(value: Any, what: str, required: Sequence[str], optional: Sequenc
 
 def _array(rows: Any, what: str) -> NDArray[Any]:
     """Rows as an array. Where numpy would make floats of whole numbers, each stays as it is."""
+    if not isinstance(rows, Iterable):
+        raise TypeError(f"{what}: an array, a frame or a list of rows, and not {rows!r:.200}")
     listed = list(rows)
     try:
         array = numpy.array(listed)
@@ -76,13 +78,17 @@ def whole(array: NDArray[Any], what: str) -> NDArray[Any]:
     if isinstance(array, numpy.ma.MaskedArray) and array.mask.any():
         raise TypeError(f"{what}: a number is masked")
     if array.dtype.kind == "O":
-        try:
-            return numpy.array([index(it) for it in array.flat], dtype=object).reshape(array.shape)
-        except TypeError as error:
-            raise TypeError(f"{what}: {error}") from None
+        return numpy.array([_whole(it, what) for it in array.flat], dtype=object).reshape(array.shape)
     if array.dtype.kind not in "iu":
         raise TypeError(f"{what}: numbers are {array.dtype}, and not whole{FLOATS * (array.dtype.kind == 'f')}")
     return numpy.asarray(array)
+
+
+def _whole(number: Any, what: str) -> int:
+    try:
+        return index(number)
+    except TypeError:
+        raise TypeError(f"{what}: {number!r} isn't a whole number{FLOATS * isinstance(number, float)}") from None
 
 
 def first_beyond(columns: Columns, formats: Sequence[str]) -> tuple[int, int] | None:
@@ -163,10 +169,10 @@ class Nearest(Queries):
 def queries_of(windows: Any, bounds: Any, region: type, order: Order | None, first: int | None, on: Layers | None) -> Queries:
     """Queries from rows of the numbers of a region, or from bounds in their place: rows of min_x, min_y, max_x, max_y."""
     if (windows is None) == (bounds is None):
-        raise TypeError("either windows or bounds")
+        raise TypeError("give either windows or bounds=")
     members = MEMBERS.get(region)
     if members is None:
-        raise TypeError(f"{region!r} is no region whose numbers are as many in each row")
+        raise TypeError(f"region is All, Window, Inside, Covers or Circle, and not {getattr(region, '__name__', region)!s:.200}")
     if bounds is None:
         columns = columns_of(windows, "windows", members)
     elif members is not SIDES:

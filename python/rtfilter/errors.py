@@ -19,11 +19,13 @@ class RtfilterError(Exception):
 
 
 class TableError(RtfilterError, ValueError):
-    """A faulty table: the kind of its first fault (see KINDS), and the number of its record and its field, from 1."""
+    """A faulty table: the kind of its first fault (see KINDS), the number of its record and its field, from 1, and the name of
+    the file, if it is one."""
 
     def __init__(self, kind: int, record: int, field: int) -> None:
         super().__init__(kind, record, field)
         self.kind, self.record, self.field = kind, record, field
+        self.file: str | None = None
 
     @property
     def text(self) -> str:
@@ -32,7 +34,7 @@ class TableError(RtfilterError, ValueError):
         return f"table record {self.record}: {words}"
 
     def __str__(self) -> str:
-        return self.text + (SIDES if self.kind == 5 else "")
+        return (f"{self.file}: " if self.file else "") + self.text + (SIDES if self.kind == 5 else "")
 
 
 class QueryError(RtfilterError, ValueError):

@@ -1,6 +1,7 @@
 """Geometries of shapely, 1.8 or 2, in a tree: shapely 2's STRtree, with answers in order, and geopandas' `sjoin`."""
 
 import warnings
+from collections.abc import Iterable
 from typing import Any, Self
 
 import numpy
@@ -141,7 +142,10 @@ class STRtree:
 
 def objects(geometries: Any) -> Objects:
     """Geometries as an array of objects."""
-    listed = list(getattr(geometries, "geometry", geometries))
+    given = getattr(geometries, "geometry", geometries)
+    if not isinstance(given, Iterable):
+        raise TypeError(f"geometries are an array, a series, a frame or a list, and not {geometries!r:.200}")
+    listed = list(given)
     found = numpy.empty(len(listed), object)
     for at, it in enumerate(listed):
         found[at] = it

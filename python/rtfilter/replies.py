@@ -71,6 +71,8 @@ def single(text: bytes, line: str, number: int) -> Answers:
 
 def ended(lines: bytes) -> bytes:
     """Lines of which the last one ends with a line feed too."""
+    if isinstance(lines, str):
+        raise TypeError("lines are bytes, and not a str: encode it")
     return lines if not lines or lines.endswith(b"\n") else lines + b"\n"
 
 

@@ -35,7 +35,7 @@ class Rtfilter(_engine.Table, Closable, BulkCalls):
 
     def __new__(cls, table: Any, *, header: bool = False, fanout: int = 16, max_entries: int = MOST_ENTRIES) -> Self:
         if isinstance(table, (str, os.PathLike)):
-            return cls._open_file(table, header, fanout, max_entries)
+            return cls._open_named(table, header, fanout, max_entries)
         if header:
             raise ValueError("only a CSV file has a header")
         if hasattr(table, "dtype") or hasattr(table, "columns"):
@@ -43,6 +43,8 @@ class Rtfilter(_engine.Table, Closable, BulkCalls):
 
             columns = arrays.columns_of(table, "the table", FIELDS[:5], FIELDS[5:])
             return cls._open_columns(columns, fanout, max_entries)
+        if not isinstance(table, Iterable):
+            raise TypeError(f"a table is the name of a file, rows, an array or a frame, and not {table!r:.200}")
         return cls._open_rows(table, fanout, max_entries)
 
     @classmethod
@@ -60,6 +62,14 @@ class Rtfilter(_engine.Table, Closable, BulkCalls):
         if layers is not None:
             columns.append(_column(layers, "layers", len(min_x)))
         return cls._open_columns(columns, fanout, max_entries)
+
+    @classmethod
+    def _open_named(cls, name: "str | os.PathLike[str]", header: bool, fanout: int, max_entries: int) -> Self:
+        try:
+            return cls._open_file(name, header, fanout, max_entries)
+        except TableError as error:
+            error.file = os.fspath(name)
+            raise
 
     @classmethod
     def _open_columns(cls, columns: "Columns", fanout: int, max_entries: int) -> Self:
@@ -118,6 +128,8 @@ class Rtfilter(_engine.Table, Closable, BulkCalls):
 
     def text(self, lines: bytes) -> bytes:
         """What the program writes for the bytes of query lines. The call runs to its end, whatever signals come."""
+        if isinstance(lines, str):
+            raise TypeError("lines are bytes, and not a str: encode it")
         return self._text(lines)
 
     def replies(self, lines: Iterable[str]) -> list[Reply]:

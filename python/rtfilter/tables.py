@@ -37,7 +37,7 @@ class Tables(SingleCalls, BulkCalls):
     def __init__(self, members: Iterable[Rtfilter | Client]) -> None:
         self._members = [*members]
         if not self._members:
-            raise ValueError("no table is given")
+            raise ValueError("members: no table is given")
         for it in self._members:
             if not isinstance(it, (Rtfilter, Client)):
                 raise TypeError(f"a member is an Rtfilter or a Client, and not {it!r:.200}")

@@ -28,7 +28,7 @@ class Zones:
 
     def __init__(self, polygons: Any, *, scale: float | None = None) -> None:
         if scale is not None and not scale > 0:
-            raise ValueError("a scale is above 0")
+            raise ValueError(f"scale is above 0, and not {scale!r}")
         self._scale = scale
         corners, rings, parts, zones = [numpy.empty((0, 2), "i4")], [0], [0], []
         self._len = 0
@@ -87,7 +87,7 @@ class Zones:
             raise ValueError("a coordinate that isn't finite") from None
         whole += scaled - whole >= 0.5
         if self._scale is None and whole != scaled:
-            raise TypeError(f"{number} isn't a whole number: give a scale")
+            raise TypeError(f"{number} isn't a whole number: give scale=")
         return whole
 
     def _ring(self, positions: Any) -> NDArray[Any]:
@@ -110,7 +110,7 @@ class Zones:
         whole = numpy.floor(floats)
         whole += floats - whole >= 0.5
         if self._scale is None and (whole != floats).any():
-            raise TypeError(f"{floats[whole != floats][0]} isn't a whole number: give a scale")
+            raise TypeError(f"{floats[whole != floats][0]} isn't a whole number: give scale=")
         if ((whole < LIMITS.min) | (whole > LIMITS.max)).any():
             raise ValueError("a coordinate out of the range of 32 bits")
         return numpy.asarray(whole, "i4")
@@ -132,4 +132,6 @@ def _parts(polygon: Any) -> Any:
     if kind not in ("Polygon", "MultiPolygon"):
         raise ValueError(f"{kind or type(polygon).__name__} is no Polygon and no MultiPolygon")
     coordinates = found.get("coordinates")
+    if not isinstance(coordinates, (list, tuple)):
+        raise ValueError(f"a {kind} without coordinates")
     return [coordinates] if kind == "Polygon" else coordinates

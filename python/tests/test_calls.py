@@ -120,12 +120,14 @@ def test_invalid_queries(boxes: Rtfilter, region: Any, code: str, text: str) -> 
         (lambda it: it.find_each(numpy.zeros((1, 4))), TypeError, "windows: numbers are float64, and not whole"),
         (lambda it: it.find_each([(0, 1, 0)]), TypeError, "windows: the shape is (1, 3), and not (n, 4)"),
         (lambda it: it.find_each([(0, 1, 0, 1), (0, 1)]), TypeError, "windows: rows of different lengths"),
-        (lambda it: it.find_each(), TypeError, "either windows or bounds"),
-        (lambda it: it.find_each([], bounds=[]), TypeError, "either windows or bounds"),
-        (lambda it: it.find_each([], region=Polygon), TypeError, "is no region whose numbers are as many in each row"),
+        (lambda it: it.find_each(), TypeError, "give either windows or bounds="),
+        (lambda it: it.find_each([], bounds=[]), TypeError, "give either windows or bounds="),
+        (lambda it: it.find_each([], region=Polygon), TypeError, "region is All, Window, Inside, Covers or Circle, and not Polygon"),
         (lambda it: it.find_each(bounds=[], region=Circle), TypeError, "Circle has no bounds"),
         (lambda it: it.count_each([(0, 1, 0, 1)], on=[]), ValueError, "no layer is given"),
         (lambda it: it.nearest_each([(0, 1)], -1), QueryError, "Q6 out of range"),
+        (lambda it: it.nearest(-1, 0, 1), QueryError, "Q6 out of range: nearest -1 0 1"),
+        (lambda it: it.text("count all"), TypeError, "lines are bytes, and not a str"),
     ],
 )
 def test_refused(boxes: Rtfilter, make: Any, error: type[Exception], words: str) -> None:

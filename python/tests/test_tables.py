@@ -105,7 +105,7 @@ def test_faulty_files(text: str, fault: tuple[int, int, int], tmp_path: Path) ->
     assert (error.kind, error.record, error.field) == fault and isinstance(error, (ValueError, RtfilterError))
     done = subprocess.run([PROGRAM, table], input=b"", capture_output=True)
     assert done.stderr.decode() == f"rtfilter: {error.text}\n"
-    assert str(error) == error.text + (f"; {SIDES}" if error.kind == 5 else "")
+    assert str(error) == f"{table}: {error.text}" + (f"; {SIDES}" if error.kind == 5 else "")
 
 
 def test_too_many() -> None:
@@ -162,7 +162,7 @@ FRAME = pandas.DataFrame(ROWS, columns=NAMES)
         ([ROWS[0], (2, None, 1, 0, 1)], "row 1: min_x is None, and not a whole number"),
         (numpy.array(ROWS, float), "the table: numbers are float64, and not whole"),
         (numpy.array([(1, 0, numpy.nan, 0, 1)]), "the table: numbers are float64, and not whole"),
-        (numpy.array([(1, 0, 1.0, 0, 1)], object), "the table: 'float' object cannot be interpreted as an integer"),
+        (numpy.array([(1, 0, 1.0, 0, 1)], object), "the table: 1.0 isn't a whole number: scale and round floats"),
         (numpy.array(ROWS, bool), "the table: numbers are bool, and not whole"),
         (numpy.ma.array(ROWS, mask=[[0] * 5] * 4 + [[0, 0, 0, 0, 1]]), "the table: a number is masked"),
         (numpy.zeros((3, 4), "i8"), r"the table: the shape is (3, 4), and not (n, 5 or 6)"),
@@ -170,8 +170,8 @@ FRAME = pandas.DataFrame(ROWS, columns=NAMES)
         (FRAME.drop(columns="max_y"), "the table: there is no column max_y among id, min_x, max_x, min_y"),
         (FRAME.assign(maxY=1), "the table: the columns max_y and maxY are both max_y"),
         (FRAME.assign(min_x=FRAME.min_x / 2), "the table: numbers are float64, and not whole"),
-        (FRAME.astype("Int64").replace(30, pandas.NA), "the table: 'NAType' object cannot be interpreted as an integer"),
-        (7, "'int' object is not iterable"),
+        (FRAME.astype("Int64").replace(30, pandas.NA), "the table: <NA> isn't a whole number"),
+        (7, "a table is the name of a file, rows, an array or a frame, and not 7"),
     ],
 )
 def test_other_types(table: Any, words: str) -> None:

@@ -90,9 +90,9 @@ def test_scale() -> None:
     zones = Zones([SQUARE], scale=10)  # to 3, since a half is rounded upwards
     assert zones.holding(0.3, 0) == [0] and zones.holding(0.349, 0) == [0] and zones.holding(0.35, 0) == []
     assert [it.tolist() for it in zones.holding_each([(0.1, 0.1), (-0.05, 0), (-0.051, 0)])] == [[0, 1], [0, 0]]
-    with pytest.raises(TypeError, match=r"polygons\[0\]: 0.25 isn't a whole number: give a scale"):
+    with pytest.raises(TypeError, match=r"polygons\[0\]: 0.25 isn't a whole number: give scale="):
         Zones([SQUARE])
-    with pytest.raises(ValueError, match="a scale is above 0"):
+    with pytest.raises(ValueError, match="scale is above 0, and not"):
         Zones([SQUARE], scale=0)
 
 

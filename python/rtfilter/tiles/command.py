@@ -10,7 +10,7 @@ from pathlib import Path
 
 from aiohttp import web
 
-from .. import TableError, __version__
+from .. import __version__
 from .._console import say
 from .boxes import Boxes, Files
 from .server import Served, Server
@@ -97,11 +97,7 @@ def loaded(args: argparse.Namespace, generation: int = 1) -> Served:
         if name is not None:
             with open(name, "rb") as file:
                 made_of.update(hashlib.file_digest(file, "blake2b").digest())
-    try:
-        boxes = Boxes(Files(args.table, args.header, args.names, args.layers))
-    except TableError as error:
-        raise ValueError(f"{args.table}: {error}") from error
-    return Served(Views(boxes), made_of.hexdigest(), generation)
+    return Served(Views(Boxes(Files(args.table, args.header, args.names, args.layers))), made_of.hexdigest(), generation)
 
 
 async def keep_loaded(args: argparse.Namespace, server: Server, again: asyncio.Event) -> None:

@@ -135,7 +135,7 @@ def test_each_read_is_answered_before_the_next(zones: Path) -> None:
         ([feature(1, [[0, 0], [1, 1], [0, 0]])], "polygons[0]: a ring of 3 positions, and not 4 or more"),
         ([feature(1, [*square(0, 0, 1), [0, float("nan")]])], "polygons[0]: a ring whose last position isn't its first"),
         ([feature("a", square(0, 0, 1)), {"type": "Feature"}], "polygons[1]: dict is no Polygon and no MultiPolygon"),
-        ([{"type": "Feature", "geometry": {"type": "Polygon"}}], "polygons[0]: 'NoneType' object is not iterable"),
+        ([{"type": "Feature", "geometry": {"type": "Polygon"}}], "polygons[0]: a Polygon without coordinates"),
         ([5], "features[0]: no feature"),
         (b"[" * 100_000, "lists in lists, too deep to be read"),
         (b"{}", "no FeatureCollection"),
