@@ -810,11 +810,11 @@ static PyObject *find_each(Table *self, PyObject *args)
     if (!PyArg_ParseTuple(args, "OnO!O!On|OO", from, &it.place, &PyByteArray_Type, &places, &PyByteArray_Type, &ids, &scores,
                           &count, from + 1, from + 2))
         return NULL;
-    const int wanted = from[2] ? 3 : 1;
+    const int needed = from[2] ? 3 : 1;
     int views = 0;
-    while (views < wanted && view_items(from[views], of + views, sizes[views], lens + views))
+    while (views < needed && view_items(from[views], of + views, sizes[views], lens + views))
         views++;
-    worker *by = views == wanted ? take(self) : NULL;
+    worker *by = views == needed ? take(self) : NULL;
     bool is_done = false;
     if (by) {
         it.left = (rtfilter_queries){of[0].buf, (size_t)lens[0], NULL, 0};
