@@ -5,7 +5,7 @@ usage: bench/bench.py PROGRAM [--only PART].. [--library ARCHIVE]
 
 What bench/peers holds is compiled into build/peers with g++: Boost.Geometry, GEOS, libspatialindex, SQLite's R*Tree,
 and a scan without an index. Debian's packages for them are libboost-dev, libgeos++-dev, libspatialindex-dev and
-libsqlite3-dev; who isn't there is passed over and told, and so are instructions without valgrind. Each gives rtfilter's answers, byte for byte, or this fails. The parts:
+libsqlite3-dev; a program that isn't there is skipped and named, and so are instructions without valgrind. Each gives rtfilter's answers, byte for byte, or this fails. The parts:
 
 - growth: loads, memory and lines over the number of boxes
 - lines: every verb, region, order and limit

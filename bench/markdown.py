@@ -8,7 +8,7 @@ from machine import sentence
 from programs import OURS
 from words import bytes_text, count_text, ratio_text, time_text
 
-# What is told of the memory: when it was looked at, and what of it.
+# The figures of memory: when it was looked at, and what of it.
 MEMORY = {
     "resident, loaded": ("loaded", "resident"),
     "most while it loads": ("loaded", "most"),

@@ -168,7 +168,7 @@ IDS = {
 
 
 def write_table(path, name, boxes, order):
-    """Writes a table, and tells its path. Boxes have layers by turns."""
+    """Writes a table, and returns its path. Boxes have layers by turns."""
     chance, table = random.Random(2), TABLES[name](boxes)
     with open(path, "w") as file:
         for at, id in enumerate(IDS[order](boxes)):

@@ -12,7 +12,7 @@ LONG_LOAD = 2.0
 
 
 def loads(programs, table, turns=ROUNDS):
-    """The least seconds that each program took to load a table, and a session of each; none of who takes too long."""
+    """The least seconds that each program took to load a table, and a session of each; none of a program that takes too long."""
     least, sessions = {}, {}
     for turn in range(turns):
         for name, path in programs.items():
@@ -62,7 +62,7 @@ def only_ours(sessions):
 
 
 def ended(sessions):
-    """Ends all, and tells the memory of each at its end."""
+    """Ends all, and returns the memory of each at its end."""
     memory = {name: session.memory() for name, session in sessions.items()}
     for session in sessions.values():
         session.end()

@@ -287,7 +287,7 @@ class Service:
             table.running.popitem()[1].set_result(signal.SIGKILL)
         if table is self._table:
             self._table = None
-            log(f"the program has ended, with status {status}: those who connect wait until another is loaded")
+            log(f"the program has ended, with status {status}: new connections wait until another is loaded")
             if time.monotonic() - table.loaded > LONGEST_PAUSE:
                 self._pause = FIRST_PAUSE
 

@@ -1,7 +1,7 @@
 #!/usr/bin/env python3
 """Counts the lines and the functions of each crate, and the calls from `main` to the line that decides about an answer.
 
-The calls are those that CONTRIBUTING.md tells under "Call path of a query line", crate by crate, each called by the one before;
+The calls are those that CONTRIBUTING.md names under "Call path of a query line", crate by crate, each called by the one before;
 a file in brackets has the calls before it. So are the calls of the second table, from the node's entries to the comparison
 of a box, and those of the third, from an export of the library to the search. Definitions that have to be believed are counted
 by tools/definitions.py.

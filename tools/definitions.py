@@ -8,13 +8,13 @@ those that these name, and so on. A line counts unless it is blank, a comment, a
   where it is exported to C.
   Its contract is its clauses. What a trait asks of a type, what a type says of itself as one, and what it is seen as
   count as well. The view and the invariant of a type don't: they speak of its fields, which no caller sees.
-- What the headline reaches, which is one clause of one call, is told beside what all of them reach.
+- What the headline reaches, which is one clause of one call, is printed beside what all of them reach.
 - What contracts of the library reach, and none of the program's, is counted apart: it concerns the library alone.
 - What the library's exports reach, with what of that the program's contracts reach too, is counted beside that.
-- What only SAID_AGAIN reaches is told apart: it follows from what other clauses say, or nobody has to know it.
+- What only SAID_AGAIN reaches is printed apart: it follows from what other clauses say, or nobody has to know it.
 - Lemmas, in `specs/Lemmas`, are proved: nobody has to believe them. Types that the code declares are read there.
 
-Run from anywhere: `python3 tools/definitions.py`. `--names` tells the definitions one by one. `--check` fails where
+Run from anywhere: `python3 tools/definitions.py`. `--names` prints each definition. `--check` fails where
 there are more lines than MOST_LINES, or where docs/internals/design.md names other files; its last line is `N passed, M failed`.
 """
 
@@ -140,7 +140,7 @@ def definitions(crate, module):
 
 
 def reached_from(clauses, passed_over=frozenset()):
-    """How many lines each definition has that some of the clauses reach, but for what is passed over."""
+    """How many lines each definition has that some of the clauses reach, but for what is skipped."""
     modules = {}
     lines = {}
     waiting = {name for clause in clauses for name in clause[-1]} - passed_over
@@ -163,7 +163,7 @@ def files_on_the_map():
 def main():
     parser = argparse.ArgumentParser(description=__doc__.splitlines()[0])
     parser.add_argument("--check", action="store_true", help="fail where there are more lines than there may be")
-    parser.add_argument("--names", action="store_true", help="tell the definitions one by one")
+    parser.add_argument("--names", action="store_true", help="print each definition")
     options = parser.parse_args()
 
     crates = re.findall(r"^(\w+)(?: staticlib)?:", (ROOT / "crates.txt").read_text(encoding="utf-8"), re.MULTILINE)

@@ -150,7 +150,7 @@ class Ends(Case):
                 send(signal.SIGKILL, service.programs)
                 self.assertEqual((one.recv(1), two.recv(1)), (b"", b""))
             self.assertEqual(service.ask(b"count all\n"), b"ok 1 5\n")
-            service.logs("^the program has ended, with status -9: those who connect wait ", at)
+            service.logs("^the program has ended, with status -9: new connections wait ", at)
             service.logs("^ready again: 5 boxes$", at)
         with service.connect() as one, service.connect() as two:  # no slot was lost
             self.count(one, two)
