@@ -146,10 +146,11 @@ class Client(SingleCalls):
         return cut(replies, [*texts, ""], before + 1)[:-1]
 
     def close(self) -> None:
-        """Closes the connection. Later calls raise ValueError."""
+        """Closes the connection, at the end of a call that is under way. Later calls raise ValueError."""
         self._is_closed = True
-        if self._caller is None:
+        if self._lock.acquire(blocking=False):  # else the call that has it does this
             self._drop()
+            self._lock.release()
 
     def _find(self, region: Region, order: Order | None, first: int | None, on: Layers | None, scores: bool) -> list[Any]:
         answers = self._single(find_line(region, order, first, on))
@@ -169,6 +170,7 @@ class Client(SingleCalls):
             raise TimedOut("another call took too long")
         try:
             self._caller = threading.get_ident()
+            self._check_open()
             connection = self._connected(deadline)
             before = connection.lines
             return connection.exchange(text, lines, deadline), before
@@ -179,15 +181,18 @@ class Client(SingleCalls):
             self._caller = None
             self._lock.release()
             if self._is_closed:
-                self._drop()
+                self.close()
 
     def _check(self) -> None:
         if os.getpid() != self._process:
             raise RuntimeError(f"the client belongs to process {self._process}: make another one after a fork")
-        if self._is_closed:
-            raise ValueError("the client was closed")
+        self._check_open()
         if self._caller == threading.get_ident():
             raise RuntimeError("a call in the middle of another one of the same thread")
+
+    def _check_open(self) -> None:
+        if self._is_closed:
+            raise ValueError("the client was closed")
 
     def _connected(self, deadline: Deadline) -> Connection:
         if self._connection is not None and self._connection.is_lost():

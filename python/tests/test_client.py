@@ -335,3 +335,41 @@ def test_a_service_ends_while_its_last_connection_does(data: Path, tmp_path: Pat
                 assert client.count(All()) == 5
             service.terminate()
             assert service.wait(30) == 0
+
+
+class Handing:
+    """A lock that lets other threads run first, once it is released."""
+
+    def __init__(self) -> None:
+        self._lock = threading.Lock()
+        self.acquire = self._lock.acquire
+
+    def release(self) -> None:
+        self._lock.release()
+        time.sleep(0.001)
+
+
+def test_a_close_in_the_middle_of_calls(serve: Serve, data: Path, monkeypatch: pytest.MonkeyPatch) -> None:
+    """A call is answered, or says that the client was closed, which leaves no connection open."""
+    path, wrong = serve(data / "boxes.csv"), list[BaseException]()
+    for at in range(50):
+        client = Client(path, timeout=20)
+        monkeypatch.setattr(client, "_lock", Handing())
+
+        def ask() -> None:
+            try:
+                while True:
+                    assert client.count(All()) == 5
+            except ValueError as error:
+                assert str(error) == "the client was closed"
+            except BaseException as error:
+                wrong.append(error)
+
+        threads = [threading.Thread(target=ask) for _ in range(3)]
+        for it in threads:
+            it.start()
+        time.sleep(0.0003 * at)
+        client.close()
+        for it in threads:
+            it.join()
+        assert wrong == [] and client._connection is None
