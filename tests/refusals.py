@@ -84,7 +84,7 @@ TESTS = {
     "rt_command_tests": ["memory::a_refused_name_is_reported", "memory::refused_settings_are_reported"],
 }
 # What they say of a refused growth: of the call, and of what was made before it.
-TOLD, BEFOREHAND = b"reported as refused", b"refused beforehand"
+REPORTED, BEFOREHAND = b"reported as refused", b"refused beforehand"
 
 # What is refused, with which error, and how often.
 Refusal = collections.namedtuple("Refusal", ["call", "error", "many"])
@@ -266,8 +266,8 @@ def calls(refuser):
         for name in names:
             found, whole = refuser.each([str(binary), name], Refusal("memory", errno.ENOMEM, ONCE))
             said = [error.split(b"\n")[0] if status else b"" for status, _, error in found]
-            wrong = differences([*said, whole[0]], [[TOLD, BEFOREHAND]] * len(said) + [[0]])
-            yield f"{crate}, {name}", said.count(TOLD), wrong
+            wrong = differences([*said, whole[0]], [[REPORTED, BEFOREHAND]] * len(said) + [[0]])
+            yield f"{crate}, {name}", said.count(REPORTED), wrong
 
 
 def outcomes(refuser, program):
