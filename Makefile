@@ -119,7 +119,7 @@ test-users: all library
 test-packages:
 	@tests/packages
 
-# The greatest table that is allowed: some 1.2 GB of memory, and half a minute. No part of test.
+# The greatest table that is allowed: some 1 GB of memory, and half a minute. No part of test.
 test-full: build/rtfilter
 	@tests/sizes.py build/rtfilter --full
 

@@ -5,7 +5,7 @@ usage: tests/sizes.py PROGRAM [--full]
 
 Each fanout from 2 to 64 at the sizes around its powers up to 64 * 64 * 64, where a tree gains a level, and each size from
 0 to a thousand: whatever is made for so many boxes, there is room for it. With --full instead the greatest table that is allowed, of
-16,777,216 boxes, and one of a box more: it takes some 1.2 GB of memory, and half a minute. The last line is `N passed, M
+16,777,216 boxes, and one of a box more: it takes some 1 GB of memory, and half a minute. The last line is `N passed, M
 failed`.
 """
 
