@@ -154,7 +154,7 @@ class Health(Case):
             self.assertEqual(self.response(service, request)[0], status, request)
 
     def test_slow_and_silly_ones(self) -> None:
-        """Who says nothing, too much, or reads nothing keeps nobody waiting, and is left after some seconds."""
+        """A client that says nothing, too much, or reads nothing keeps no other waiting, and is dropped after some seconds."""
         service = self.served(BOXES, "--health", "0")
         (before, _) = service.files_at_rest()
         with contextlib.ExitStack() as stack:

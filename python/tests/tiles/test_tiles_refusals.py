@@ -1,4 +1,4 @@
-"""What isn't asked well is refused; tables of every kind are held as they are."""
+"""Bad requests are refused; tables of every kind are held as they are."""
 
 import json
 import random
@@ -88,7 +88,7 @@ class Refusals(Mapped):
             self.assertEqual(len(json.loads(connection.getresponse().read())["answers"]), 1)
 
     def test_lines_at_random(self) -> None:
-        """Each is answered as the program does, or isn't asked since it may have too many answers."""
+        """Each is answered as the program does, or is refused since it may have too many answers."""
         chance = random.Random(3)
         answered = refused = 0
         for _ in range(250):
