@@ -139,7 +139,3 @@ def read_to(asker: socket.socket, end: bytes) -> None:
     found = b""
     while not found.endswith(end):
         found = found[-100:] + asker.recv(1 << 16)
-
-
-if __name__ == "__main__":
-    unittest.main()

@@ -11,7 +11,6 @@ import struct
 import subprocess
 import threading
 import time
-import unittest
 from pathlib import Path
 
 from served import (
@@ -420,7 +419,3 @@ def times_of(process: int) -> float:
     """Seconds of processor time that a process has taken."""
     fields = Path(f"/proc/{process}/stat").read_text().rpartition(")")[2].split()
     return (int(fields[11]) + int(fields[12])) / os.sysconf("SC_CLK_TCK")
-
-
-if __name__ == "__main__":
-    unittest.main()

@@ -7,7 +7,6 @@ import socket
 import subprocess
 import sys
 import time
-import unittest
 
 from served import BOXES, LONG, MOMENT, Case, Served, is_there, read_lines, send, stop, table_of, until
 
@@ -152,7 +151,3 @@ class Control(Case):
                     os.kill(processes[at], signal.SIGKILL)
                 service.process.wait(10)
                 until(lambda: not any(map(is_there, processes)), "the end of all processes")
-
-
-if __name__ == "__main__":
-    unittest.main()

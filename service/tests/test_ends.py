@@ -6,7 +6,6 @@ import signal
 import socket
 import threading
 import time
-import unittest
 from pathlib import Path
 from typing import Any
 
@@ -284,7 +283,3 @@ class Ends(Case):
         service = self.served(program=str(program))
         self.assertEqual(service.process.wait(10), 1)
         service.logs("^the program has ended, with status 0$")
-
-
-if __name__ == "__main__":
-    unittest.main()

@@ -7,7 +7,6 @@ import socket
 import sys
 import threading
 import time
-import unittest
 from pathlib import Path
 
 from served import BOXES, PROGRAM, Case, Served, all_of, answers, put_library, read_lines, send, output_of_program, until
@@ -281,7 +280,3 @@ class Exchanges(Case):
             finally:
                 is_over.set()
         self.assertEqual(service.process.returncode, 0)
-
-
-if __name__ == "__main__":
-    unittest.main()

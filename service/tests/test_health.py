@@ -8,7 +8,6 @@ import socket
 import subprocess
 import sys
 import time
-import unittest
 from pathlib import Path
 
 from served import BOXES, MOMENT, PROGRAM, SERVICE, Case, Served, read_lines, table_of, until
@@ -174,7 +173,3 @@ class Health(Case):
                     self.assertNotIn(b"200", asker.recv(100))
         until(lambda: service.open_files[0] == before, "nothing left open")
         self.assertNotIn("Traceback", service.log)
-
-
-if __name__ == "__main__":
-    unittest.main()

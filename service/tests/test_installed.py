@@ -7,7 +7,6 @@ import shutil
 import signal
 import socket
 import subprocess
-import unittest
 from pathlib import Path
 
 from served import BOXES, MOMENT, PROGRAM, ROOT, Case, found, talk
@@ -123,7 +122,3 @@ def allowed(name: str) -> set[str]:
     listing = subprocess.run(["systemd-analyze", "syscall-filter", name], stdout=subprocess.PIPE, text=True, check=True).stdout
     names = [line.strip() for line in listing.splitlines()[1:] if line.strip() and not line.strip().startswith("#")]
     return {call for it in names for call in (allowed(it) if it.startswith("@") else {it})}
-
-
-if __name__ == "__main__":
-    unittest.main()

@@ -11,7 +11,6 @@ import stat
 import subprocess
 import sys
 import time
-import unittest
 from pathlib import Path
 
 from served import (
@@ -339,7 +338,3 @@ def copied(folder: Path) -> Path:
         Path(folder, name).write_bytes(Path(PROGRAM).with_name(name).read_bytes())
     Path(folder, "rtfilter").chmod(0o755)
     return Path(folder, "rtfilter")
-
-
-if __name__ == "__main__":
-    unittest.main()

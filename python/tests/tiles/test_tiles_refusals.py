@@ -163,7 +163,3 @@ class Tables(unittest.TestCase):
         with Server(folder / "boxes.csv", "--names", str(folder / "names.csv")) as server:
             answers = json.loads(server.get("/ask?q=find+all+first+2")[1])["answers"]
             self.assertEqual([answer.get("name") for answer in answers], ["a\r\nb", None])
-
-
-if __name__ == "__main__":
-    unittest.main()

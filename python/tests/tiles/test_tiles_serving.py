@@ -499,7 +499,3 @@ def blank_pages() -> Any:
         finally:
             server.shutdown()
             thread.join()
-
-
-if __name__ == "__main__":
-    unittest.main()
