@@ -106,7 +106,3 @@ class Wheel(unittest.TestCase):
             words = [sys.executable, MAKE, PROGRAM, str(file), str(LIBRARY), self.folder]
             done = subprocess.run([*map(str, words)], capture_output=True, text=True)
             self.assertEqual((done.returncode, done.stderr.splitlines()[-1]), (1, f"make_wheel.py: {file} {reason}"))
-
-
-if __name__ == "__main__":
-    unittest.main()

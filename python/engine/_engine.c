@@ -692,7 +692,7 @@ typedef struct {
     size_t skip;           /* how many answers of the first of them were taken */
     Py_ssize_t place;      /* the place of the first of them */
     int64_t *places, *ids;
-    rtfilter_score *scores; /* null if they aren't wanted */
+    rtfilter_score *scores; /* null if there are to be none */
     size_t capacity, kept;
     const double *boxes, *windows; /* by id and by place; null where nothing is filtered */
     Py_ssize_t box_count, window_count;

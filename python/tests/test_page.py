@@ -96,9 +96,9 @@ def test_scaling(tmp_path: Path) -> None:
         assert numpy.concatenate([ids for _, ids in names["parts"]]).tolist() == ids.tolist()
         assert values_of(several, names) == [one.find(names["Window"](0, 10, 0, 10))]
         assert [*zip(names["places"].tolist(), names["ids"].tolist())] == pairs
-    asked = dataframe.from_pandas(pandas.DataFrame(windows, columns=columns[1:]), npartitions=3)
+    partitioned = dataframe.from_pandas(pandas.DataFrame(windows, columns=columns[1:]), npartitions=3)
     points = dataframe.from_pandas(pandas.DataFrame({"x": [1, 9], "y": [2, 0]}), npartitions=1)
-    names |= {"dask": pytest.importorskip("dask"), "windows": asked, "points": points}
+    names |= {"dask": pytest.importorskip("dask"), "windows": partitioned, "points": points}
     with names["dask"].config.set(scheduler="threads", num_workers=2):
         found, (counts, nearest) = values_of(whole, names)
         assert [*found.compute()[["id"]].itertuples(name=None)] == pairs

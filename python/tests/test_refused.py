@@ -65,7 +65,7 @@ for name, call in calls.items():
 
 @pytest.fixture(scope="module")
 def refusing(tmp_path_factory: pytest.TempPathFactory) -> Path:
-    """A library with a malloc that fails when it is told to."""
+    """A library with a malloc that fails on request."""
     library = tmp_path_factory.mktemp("refuse") / "refuse.so"
     subprocess.run(["cc", "-shared", "-fPIC", "-O", "-o", library, ROOT / "tests/refuse.c"], check=True)
     return library

@@ -1,4 +1,4 @@
-"""What a connection can do: read, write, give memory back and end. And prefork.c by those who look for faults in C."""
+"""What a connection can do: read, write, give memory back and end. And prefork.c by tools that find faults in C."""
 
 import os
 import re
@@ -59,7 +59,7 @@ class Confinement(Case):
                 self.assertEqual((end - begin, "memfd:rtfilter-common" in line), (4096, True))
 
     def test_calls(self) -> None:
-        """What strace sees, whatever is asked, to the end."""
+        """What strace sees, of every kind of line, to the end."""
         if shutil.which("strace") is None:
             self.skipTest("strace: not installed")
         table = table_of(self.folder, "many", 0, 100_000)
@@ -112,7 +112,7 @@ class Confinement(Case):
         reports = [path.read_text() for path in logs.iterdir()]
         self.assertGreaterEqual(len(reports), 7)
         for report in reports:
-            # Of a program, which is killed at its end, nothing is told behind the head.
+            # Of a program, which is killed at its end, nothing stands behind the head.
             self.assertRegex(report, r"ERROR SUMMARY: 0 errors|Command: /bin/sh|Command: /usr/bin/valgrind|" + NO_FAULT, report)
 
 
@@ -139,7 +139,3 @@ def read_to(asker: socket.socket, end: bytes) -> None:
     found = b""
     while not found.endswith(end):
         found = found[-100:] + asker.recv(1 << 16)
-
-
-if __name__ == "__main__":
-    unittest.main()

@@ -11,7 +11,6 @@ import struct
 import subprocess
 import threading
 import time
-import unittest
 from pathlib import Path
 
 from served import (
@@ -107,7 +106,7 @@ class SameAsProgram(Case):
                 self.assertEqual(service.ask(queries), output_of_program(BOXES, queries))
 
     def test_each_line_is_answered_at_once(self) -> None:
-        """Who asks writes the next line when it has the reply to the one before."""
+        """A client writes the next line when it has the reply to the one before."""
         service = self.served(BOXES, "--tcp", "[::1]:0")
         for asker in (service.connect(), socket.create_connection(("::1", service.tcp[1]))):
             with asker:
@@ -121,7 +120,7 @@ class SameAsProgram(Case):
         self.assertEqual(found, output_of_program(BOXES, queries))
 
     def test_the_log(self) -> None:
-        """A line for each connection's end: who it was, with which status, after how long."""
+        """A line for each connection's end: its client, its status, its time."""
         service = self.served(BOXES, "--tcp", "0", "--tcp", "[::1]:0")
         for number, (queries, status) in enumerate(((b"", 0), (b"count all\n", 0), (b"\n# none\nx", 1)), 1):
             asker = socket.create_connection(service.tcp)
@@ -193,7 +192,7 @@ class Askers(Case):
         return worst
 
     def test_patience(self) -> None:
-        """A reader who lets replies wait for longer has its connection ended, and what it got is a part of them."""
+        """A client that lets replies wait for longer has its connection ended, and got a part of them."""
         service = self.served(table_of(self.folder, "many", 0, 100_000), "--patience", "0.3", "--tcp", "0")
         for asker in (service.connect(), socket.create_connection(service.tcp)):
             with asker:
@@ -209,7 +208,7 @@ class Askers(Case):
         self.assert_well(service)
 
     def test_silence(self) -> None:
-        """One who says nothing for so long is ended; one who says something now and then isn't."""
+        """A connection that is silent for so long is ended; one that sends something now and then isn't."""
         service = self.served(BOXES, "--silence", "0.6", "--tcp", "0")
         with service.connect() as silent, service.connect() as asker, socket.create_connection(service.tcp) as other:
             for at in range(1, 16):
@@ -315,7 +314,7 @@ def processes_of(user: int) -> int:
 
 class WantOfRoom(Case):
     def test_a_fork_that_fails(self) -> None:
-        """It is told, the connection is closed and its slot free, and others go on."""
+        """It is logged, the connection is closed and its slot free, and others go on."""
         environment, flag = self.preload(NO_FORK)
         service = self.served(BOXES, "--connections", "2", env=environment)
         with service.connect() as asker:
@@ -332,7 +331,7 @@ class WantOfRoom(Case):
             until(lambda: service.open_files == before, "nothing left open")
 
     def test_a_load_without_a_process(self) -> None:
-        """Why there is no table, or why the new one isn't taken, is told."""
+        """The log says why there is no table, or why the new one isn't taken."""
         environment, flag = self.preload(NO_FORK)
         why = "it can't serve a connection: Resource temporarily unavailable"
         flag.touch()
@@ -351,7 +350,7 @@ class WantOfRoom(Case):
         until(lambda: service.open_files == before, "nothing left open")
 
     def test_one_more_than_can_be_watched(self) -> None:
-        """The table is exchanged all the same, and who connects is answered."""
+        """The table is exchanged all the same, and new connections are answered."""
         environment, flag = self.preload(NO_EPOLL)
         service = self.served(BOXES, "--health", "0", env=environment)
         flag.touch()
@@ -362,7 +361,7 @@ class WantOfRoom(Case):
         until(lambda: len(service.programs) == 1, "the end of old tables")
 
     def test_processes_of_a_user(self) -> None:
-        """As another user, who may have so many processes and no more."""
+        """As another user, with a limit of processes."""
         if os.geteuid() != 0 or shutil.which("setpriv") is None:
             self.skipTest("root and setpriv: not there")
         if not all(it.stat().st_mode & 1 for it in SERVICE.parents):
@@ -385,7 +384,7 @@ class WantOfRoom(Case):
         self.assert_well(service)
 
     def test_descriptors(self) -> None:
-        """Where the service has no descriptor left, those who connect wait, it is told once, and nothing is busy."""
+        """Where the service has no descriptor left, new connections wait, that is logged once, and nothing is busy."""
         service = self.served(BOXES, before=["prlimit", "--nofile=24"])
         processes = [service.process.pid, *service.programs]
         with contextlib.ExitStack() as stack:
@@ -420,7 +419,3 @@ def times_of(process: int) -> float:
     """Seconds of processor time that a process has taken."""
     fields = Path(f"/proc/{process}/stat").read_text().rpartition(")")[2].split()
     return (int(fields[11]) + int(fields[12])) / os.sysconf("SC_CLK_TCK")
-
-
-if __name__ == "__main__":
-    unittest.main()

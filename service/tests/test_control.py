@@ -7,11 +7,10 @@ import socket
 import subprocess
 import sys
 import time
-import unittest
 
 from served import BOXES, LONG, MOMENT, Case, Served, is_there, read_lines, send, stop, table_of, until
 
-# A service whose program has told its size and ended, both before the service looks.
+# A service whose program has reported its size and ended, both before the service looks.
 ENDING = """
 import asyncio, signal, socket, subprocess, sys
 from argparse import Namespace
@@ -40,7 +39,7 @@ MANY = 300  # more than a program is given at once, and more reports than its so
 
 class Control(Case):
     def opened(self, service: Served, count: int, text: bytes = b"count all\n") -> list[socket.socket]:
-        """Connections that have asked."""
+        """Connections that have sent a query."""
         askers = [self.enterContext(service.connect()) for _ in range(count)]
         for asker in askers:
             asker.sendall(text)
@@ -51,13 +50,13 @@ class Control(Case):
             self.assertEqual(read_lines(asker, 1), b"ok 1 %d\n" % boxes)
 
     def test_a_program_that_ends_as_soon_as_it_has_loaded(self) -> None:
-        """It isn't the table: its end comes with what it tells of its size."""
+        """It isn't the table: its end comes with its size."""
         words = [sys.executable, "-c", ENDING]
         done = subprocess.run(words, capture_output=True, text=True, timeout=LONG)
         self.assertEqual((done.returncode, MOMENT.sub("", done.stderr)), (1, "the program has ended, with status 0\n"))
 
     def test_a_program_that_is_stopped_for_a_while(self) -> None:
-        """Who connects waits."""
+        """New connections wait."""
         service = self.served(BOXES, "--connections", str(MANY))
         stop(service.programs)
         askers = self.opened(service, MANY)
@@ -91,7 +90,7 @@ class Control(Case):
         until(lambda: len(service.programs) == 1, "the end of the old program")
 
     def test_a_program_that_takes_nothing_and_a_service_that_ends(self) -> None:
-        """Who waits is told of, too."""
+        """Connections that wait are logged, too."""
         service = self.served(BOXES, "--drain", "1", "--health", "0")
         stop(service.programs)
         askers = self.opened(service, 3)
@@ -119,7 +118,7 @@ class Control(Case):
         self.assertEqual(len(service.logs(r"^connection \d+ \(.*\): (status|signal)=", 300)), 300)
 
     def test_ends_while_the_service_is_stopped(self) -> None:
-        """More than the program can tell at once: all are told afterwards, and places are free."""
+        """More than the program can report at once: all are reported afterwards, and places are free."""
         service = self.served(BOXES, "--connections", str(MANY))
         askers = self.opened(service, MANY)
         self.assert_answered(askers)
@@ -129,7 +128,7 @@ class Control(Case):
                 asker.shutdown(socket.SHUT_WR)
         send(signal.SIGKILL, service.connections[::3])
         time.sleep(0.5)
-        for number in (signal.SIGSTOP, signal.SIGCONT):  # while it waits to tell more
+        for number in (signal.SIGSTOP, signal.SIGCONT):  # while it waits to report more
             send(number, service.programs)
         service.signal(signal.SIGCONT)
         for asker in askers:
@@ -152,7 +151,3 @@ class Control(Case):
                     os.kill(processes[at], signal.SIGKILL)
                 service.process.wait(10)
                 until(lambda: not any(map(is_there, processes)), "the end of all processes")
-
-
-if __name__ == "__main__":
-    unittest.main()

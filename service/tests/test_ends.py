@@ -1,4 +1,4 @@
-"""Who ends, and what is left then."""
+"""Ends of processes, and what is left then."""
 
 import os
 import random
@@ -6,7 +6,6 @@ import signal
 import socket
 import threading
 import time
-import unittest
 from pathlib import Path
 from typing import Any
 
@@ -142,7 +141,7 @@ class Ends(Case):
         self.assert_well(self.served())
 
     def test_kill_of_the_program(self) -> None:
-        """Its connections end; who connects meanwhile waits until another one is loaded."""
+        """Its connections end; new ones wait until another one is loaded."""
         service = self.served(BOXES, "--connections", "2")
         for at in range(1, 4):
             with service.connect() as one, service.connect() as two:
@@ -156,7 +155,7 @@ class Ends(Case):
             self.count(one, two)
 
     def test_a_connection_whose_process_is_long_in_ending(self) -> None:
-        """It has ended for its peer once that is told, by whatever it is still held."""
+        """It has ended for its peer once that is logged, whatever holds it still."""
         service = self.served(program=self.build("-DUNCONFINED", *TRIES))
         for at, of in enumerate(("connections", "programs"), 1):
             with service.connect() as asker:
@@ -268,7 +267,7 @@ class Ends(Case):
         service.logs(f"^{table}: not loaded in 0.3 seconds$")
 
     def test_connections_that_cannot_be_set_up(self) -> None:
-        """There is no service of them, and their status is told."""
+        """There is no service, and their status is reported."""
         broken = Path(self.folder, "broken.h")
         broken.write_text("#define _GNU_SOURCE\n#include <unistd.h>\n#define close_range(first, last, flags) -1\n")
         service = self.served(program=self.build("-include", broken), is_ready=False)
@@ -284,7 +283,3 @@ class Ends(Case):
         service = self.served(program=str(program))
         self.assertEqual(service.process.wait(10), 1)
         service.logs("^the program has ended, with status 0$")
-
-
-if __name__ == "__main__":
-    unittest.main()

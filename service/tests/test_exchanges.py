@@ -7,7 +7,6 @@ import socket
 import sys
 import threading
 import time
-import unittest
 from pathlib import Path
 
 from served import BOXES, PROGRAM, Case, Served, all_of, answers, put_library, read_lines, send, output_of_program, until
@@ -26,7 +25,7 @@ class Exchanges(Case):
         self.table.write_bytes(BOXES.read_bytes())
 
     def test_200_under_load(self) -> None:
-        """Each connection is answered from one table, wholly, and who connects after an exchange from the new one; no slot
+        """Each connection is answered from one table, wholly, and after an exchange from the new one; no slot
         is lost, and nothing is left."""
         self.put("".join(f"{at},0,1,0,1\n" for at in range(100)))
         service = self.served(self.table, "--connections", "6", "--health", "0")
@@ -105,7 +104,7 @@ class Exchanges(Case):
                         self.count(five)
 
     def test_drain(self) -> None:
-        """What is left to the old table after that is ended, and told."""
+        """What is left to the old table after that is ended, and logged."""
         service = self.served(self.table, "--drain", "0.5")
         with service.connect() as old, service.connect() as other:
             self.count(old)
@@ -119,7 +118,7 @@ class Exchanges(Case):
         self.assert_well(service)
 
     def test_at_most_two_tables(self) -> None:
-        """Who asks for a third has it once the first one's connections have ended; any number of times is once."""
+        """A third is loaded once the first one's connections have ended; any number of signals is one."""
         service = self.served(self.table)
         with service.connect() as old:
             self.count(old)
@@ -147,7 +146,7 @@ class Exchanges(Case):
         return str(slow), may_load
 
     def test_while_it_is_loaded(self) -> None:
-        """The old table answers; who asks for another one meanwhile has it loaded afterwards."""
+        """The old table answers; a signal for another one has it loaded afterwards."""
         program, may_load = self.slow_program()
         may_load.touch()
         service = self.served(self.table, program=program)
@@ -181,7 +180,7 @@ class Exchanges(Case):
         self.assert_well(service)
 
     def test_faulty_tables(self) -> None:
-        """They change nothing, are told in one line, and leave nothing; so does a FIFO."""
+        """They change nothing, are logged in one line, and leave nothing; so does a FIFO."""
         service = self.served(self.table, "--load-timeout", "2")
         before = service.files_at_rest()
         with service.connect() as asker:
@@ -281,7 +280,3 @@ class Exchanges(Case):
             finally:
                 is_over.set()
         self.assertEqual(service.process.returncode, 0)
-
-
-if __name__ == "__main__":
-    unittest.main()

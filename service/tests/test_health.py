@@ -8,7 +8,6 @@ import socket
 import subprocess
 import sys
 import time
-import unittest
 from pathlib import Path
 
 from served import BOXES, MOMENT, PROGRAM, SERVICE, Case, Served, read_lines, table_of, until
@@ -154,7 +153,7 @@ class Health(Case):
             self.assertEqual(self.response(service, request)[0], status, request)
 
     def test_slow_and_silly_ones(self) -> None:
-        """Who says nothing, too much, or reads nothing keeps nobody waiting, and is left after some seconds."""
+        """A client that says nothing, too much, or reads nothing keeps no other waiting, and is dropped after some seconds."""
         service = self.served(BOXES, "--health", "0")
         (before, _) = service.files_at_rest()
         with contextlib.ExitStack() as stack:
@@ -174,7 +173,3 @@ class Health(Case):
                     self.assertNotIn(b"200", asker.recv(100))
         until(lambda: service.open_files[0] == before, "nothing left open")
         self.assertNotIn("Traceback", service.log)
-
-
-if __name__ == "__main__":
-    unittest.main()

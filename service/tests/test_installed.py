@@ -1,20 +1,16 @@
 """The service as it is installed, without the repository and without pip, and its units."""
 
 import configparser
-import contextlib
 import os
 import re
 import shutil
 import signal
 import socket
 import subprocess
-import unittest
 from pathlib import Path
-from typing import Any
 
 from served import BOXES, MOMENT, PROGRAM, ROOT, Case, found, talk
 
-PAGE = ROOT / "docs/service.md"
 UNITS = ROOT / "service/rtfilter.socket", ROOT / "service/rtfilter.service"
 PLAIN = {"PATH": "/usr/bin:/bin"}
 LEAST_EXPOSURE = 1.5
@@ -81,37 +77,6 @@ class Installed(Case):
         return done.stdout
 
 
-class QuickStart(Case):
-    def test_as_typed(self) -> None:
-        """What the page shows, by the system's Python and without pip."""
-        for name in ("service", "examples"):
-            Path(self.folder, name).symlink_to(ROOT / name)
-        command_file = Path(self.folder, "bin/rtfilter-serve")
-        command_file.parent.mkdir()
-        command_file.write_text(f'#!/bin/sh\nexec /usr/bin/python3 -B {ROOT}/service/serve.py --program {PROGRAM} "$@"\n')
-        command_file.chmod(0o755)
-        served, netcat = re.findall(r"^```\n\$ ((?:rtfilter-serve|printf).*?)^```$", PAGE.read_text(), re.MULTILINE | re.DOTALL)
-        command, *expected = served.splitlines()
-        plain = {"PATH": f"{command_file.parent}:{PLAIN['PATH']}"}
-        words: dict[str, Any] = {"shell": True, "executable": "/bin/bash", "env": plain, "cwd": self.folder, "text": True}
-        started = subprocess.Popen(f"exec {command}", stderr=subprocess.PIPE, **words)
-        with started as service, contextlib.ExitStack() as stack:
-            stack.callback(service.kill)  # where something fails, nobody waits for its end
-            assert service.stderr
-            logged = [service.stderr.readline().rstrip("\n") for _ in expected]
-            self.assertEqual([MOMENT.sub("", line) for line in logged], [MOMENT.sub("", line) for line in expected])
-            self.assertTrue(all(map(MOMENT.match, [*logged, *expected])))
-            command, *shown = netcat.splitlines()
-            if has_netcat := shutil.which("nc"):
-                done = subprocess.run(command, stdout=subprocess.PIPE, timeout=60, **words)
-                self.assertEqual(done.stdout.splitlines(), shown)
-            service.terminate()
-            self.assertEqual(service.wait(10), 0)
-        self.assertFalse(os.path.lexists(f"{self.folder}/boxes.socket"))
-        if not has_netcat:
-            self.skipTest("nc: not installed")
-
-
 class AsUnit(Case):
     def test_calls_that_its_unit_allows(self) -> None:
         """The service, its programs and its connections make no others."""
@@ -157,7 +122,3 @@ def allowed(name: str) -> set[str]:
     listing = subprocess.run(["systemd-analyze", "syscall-filter", name], stdout=subprocess.PIPE, text=True, check=True).stdout
     names = [line.strip() for line in listing.splitlines()[1:] if line.strip() and not line.strip().startswith("#")]
     return {call for it in names for call in (allowed(it) if it.startswith("@") else {it})}
-
-
-if __name__ == "__main__":
-    unittest.main()

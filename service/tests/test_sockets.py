@@ -11,7 +11,6 @@ import stat
 import subprocess
 import sys
 import time
-import unittest
 from pathlib import Path
 
 from served import (
@@ -22,7 +21,7 @@ PIDFD_GETFD = 438  # a call of Linux: another process's descriptor
 
 
 def run(*words: object) -> tuple[int, str]:
-    """A service that is to end by itself: its status, and what it tells."""
+    """A service that is to end by itself: its status, and what it logs."""
     command = [sys.executable, "-B", str(SERVICE), "--program", PROGRAM, *map(str, words)]
     done = subprocess.run(command, capture_output=True, text=True, timeout=20)
     return done.returncode, MOMENT.sub("", done.stderr)
@@ -100,7 +99,7 @@ class Sockets(Case):
         self.assertEqual(sorted(service.returncode for service in services), [0, 1, 1, 1])
 
     def test_one_after_another(self) -> None:
-        """Who looks at a path, and takes or leaves it, is alone in its folder meanwhile."""
+        """A service that looks at a path, and takes or leaves it, is alone in its folder meanwhile."""
         folder = os.open(self.folder, os.O_RDONLY)
         self.addCleanup(os.close, folder)
         fcntl.flock(folder, fcntl.LOCK_EX)
@@ -131,7 +130,7 @@ class Sockets(Case):
         self.assertEqual((os.path.exists(service.path), os.path.exists(path)), (True, False))
 
     def test_a_port_that_is_taken(self) -> None:
-        """It is told before a table is loaded: this one would never be."""
+        """That is an error before a table is loaded: this one would never be."""
         table = Path(self.folder, "table")
         os.mkfifo(table)
         with socket.create_server(("127.0.0.1", 0)) as taken:
@@ -146,7 +145,7 @@ class Sockets(Case):
         self.assertEqual(self.served(BOXES, "--tcp", "0").tcp[0], "127.0.0.1")
 
     def test_socket_activation(self) -> None:
-        """Two sockets are given as systemd gives them, from descriptor 3 on, beside those that are asked for."""
+        """Two sockets are given as systemd gives them, from descriptor 3 on, beside those of options."""
         path = str(Path(self.folder, "given"))
         with socket.socket(socket.AF_UNIX) as given, socket.create_server(("127.0.0.1", 0)) as other:
             given.bind(path)
@@ -339,7 +338,3 @@ def copied(folder: Path) -> Path:
         Path(folder, name).write_bytes(Path(PROGRAM).with_name(name).read_bytes())
     Path(folder, "rtfilter").chmod(0o755)
     return Path(folder, "rtfilter")
-
-
-if __name__ == "__main__":
-    unittest.main()

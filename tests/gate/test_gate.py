@@ -84,7 +84,3 @@ class Gate(unittest.TestCase):
         """It is in order, without a name twice."""
         self.assertEqual(NAMES, sorted({*NAMES}))
         self.assertLess({"chromium", "mypy", "parallel", "postgresql"}, {*NAMES})
-
-
-if __name__ == "__main__":
-    unittest.main()

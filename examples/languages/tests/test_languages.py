@@ -104,7 +104,3 @@ class Languages(unittest.TestCase):
                     self.assertEqual(ended.stdout, "1 0\n")
                     self.assertIn("the connection has ended", ended.stderr)
                     self.assertNotEqual(ended.returncode, 0)
-
-
-if __name__ == "__main__":
-    unittest.main()

@@ -278,7 +278,3 @@ class Cost(unittest.TestCase):
             cells = cells_of(view["across"], view["along"])
             counts = replies_of(folder / "boxes.csv", ["count window %d %d %d %d" % cell for cell in cells])
             self.assertEqual(view["counts"], [int(reply[0].split()[2]) for reply in counts])
-
-
-if __name__ == "__main__":
-    unittest.main()

@@ -2,7 +2,6 @@
 
 import json
 import math
-import unittest
 from collections.abc import Sequence
 
 from chromium import Chromium
@@ -295,7 +294,3 @@ class Page(Mapped):
         layer = self.browser.value("document.querySelector('#layers label:last-child').textContent")
         self.assertEqual((name, layer), (HOSTILE_NAME, HOSTILE_LAYER))
         self.assertEqual(self.browser.value("document.querySelectorAll('img, b, script:not([src])').length"), 0)
-
-
-if __name__ == "__main__":
-    unittest.main()

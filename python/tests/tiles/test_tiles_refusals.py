@@ -1,4 +1,4 @@
-"""What isn't asked well is refused; tables of every kind are held as they are."""
+"""Bad requests are refused; tables of every kind are held as they are."""
 
 import json
 import random
@@ -88,7 +88,7 @@ class Refusals(Mapped):
             self.assertEqual(len(json.loads(connection.getresponse().read())["answers"]), 1)
 
     def test_lines_at_random(self) -> None:
-        """Each is answered as the program does, or isn't asked since it may have too many answers."""
+        """Each is answered as the program does, or is refused since it may have too many answers."""
         chance = random.Random(3)
         answered = refused = 0
         for _ in range(250):
@@ -163,7 +163,3 @@ class Tables(unittest.TestCase):
         with Server(folder / "boxes.csv", "--names", str(folder / "names.csv")) as server:
             answers = json.loads(server.get("/ask?q=find+all+first+2")[1])["answers"]
             self.assertEqual([answer.get("name") for answer in answers], ["a\r\nb", None])
-
-
-if __name__ == "__main__":
-    unittest.main()

@@ -1,4 +1,4 @@
-"""What is told of tiles, caches and compression, pages of other origins, and many processes that serve side by side."""
+"""Descriptions of tiles, caches and compression, pages of other origins, and many processes that serve side by side."""
 
 import contextlib
 import csv
@@ -86,7 +86,7 @@ class Descriptions(Serving):
         self.assertGreater(len(ids), 5)
 
     def test_style(self) -> None:
-        """Each layer that tiles may have is drawn, from the source that is told."""
+        """Each layer that tiles may have is drawn, from the source that is named."""
         style = self.json("/style.json")
         self.assertEqual(style["version"], 8)
         self.assertEqual(style["sources"], {"boxes": {"type": "vector", "url": f"{self.server.address}tiles.json"}})
@@ -231,7 +231,7 @@ class Caches(Serving):
 
 class Origins(Serving):
     def test_pages_that_may_read(self) -> None:
-        """Those of this server; others where they were told. Whoever is no page may."""
+        """Those of this server, and those that options name. A client that is no page may."""
         there, elsewhere = "https://map.example.org", "http://example.org"
         own = [f"http://127.0.0.1:{self.server.port}", "https://localhost"]
         for options, allowed, refused in (
@@ -345,7 +345,7 @@ class Reloads(unittest.TestCase):
         return server.get("/tiles.json")[0].getheader("ETag")
 
     def test_accesses_are_logged(self) -> None:
-        """In the Common Log Format, to a file that may be moved away, and each as one line, whatever was asked."""
+        """In the Common Log Format, to a file that may be moved away, and each as one line, whatever the request."""
         log = self.folder / "log"
         with Server(self.table, "--log", str(log)) as server:
             server.get("/health")
@@ -499,7 +499,3 @@ def blank_pages() -> Any:
         finally:
             server.shutdown()
             thread.join()
-
-
-if __name__ == "__main__":
-    unittest.main()
