@@ -7,7 +7,6 @@ import re
 import subprocess
 import sys
 import warnings
-from concurrent.futures import ThreadPoolExecutor
 from pathlib import Path
 from typing import Any
 
@@ -89,7 +88,8 @@ def test_scaling(tmp_path: Path) -> None:
     one = Rtfilter(rows)
     places, ids = one.find_each(windows)
     pairs = [*zip(places.tolist(), ids.tolist())]
-    names: dict[str, Any] = {"Rtfilter": Rtfilter, "ThreadPoolExecutor": ThreadPoolExecutor, "numpy": numpy, "windows": windows}
+    numpy.savetxt(tmp_path / "windows.csv", windows, "%d", ",")
+    names: dict[str, Any] = {}
     threads, several, whole, partitions = [code.replace("/data/", f"{tmp_path}/") for code in blocks_of("docs/scaling.md")]
     with contextlib.chdir(tmp_path):
         values_of(threads, names)

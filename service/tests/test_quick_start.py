@@ -52,7 +52,7 @@ class Typed(Case):
     def test_the_page(self) -> None:
         """What it shows: the log, and the replies."""
         served, netcat = re.findall(r"^```\n\$ ((?:rtfilter-serve|printf).*?)^```$", PAGE.read_text(), re.MULTILINE | re.DOTALL)
-        command, *expected = served.splitlines()
+        command, *expected = served.replace("/usr/share/rtfilter/", "").splitlines()
         with self.started(command) as service:
             self.logs(service, expected)
             command, *shown = netcat.splitlines()
