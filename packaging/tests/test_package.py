@@ -37,7 +37,7 @@ FILES = {  # beside each package's own documents
         f"{LIBRARIES}/pkgconfig/rtfilter.pc": 0o644,
         "usr/include/rtfilter.h": 0o644,
         "usr/include/rtfilter.hpp": 0o644,
-        **{f"usr/share/librtfilter/{it.relative_to(ROOT / 'bindings')}": 0o644 for it in BINDINGS if it.name != "Cargo.lock"},
+        **{f"usr/share/librtfilter/{it.relative_to(ROOT / 'bindings')}": 0o644 for it in BINDINGS if it.name not in ("Cargo.lock", "README.md", "rustfmt.toml")},
     },
     "rtfilter-service": {
         "etc/default/rtfilter-service": 0o644,
@@ -344,25 +344,38 @@ class Packages(unittest.TestCase):
             logged = Path(folder, "log").read_text().splitlines()
         return [line.removeprefix("systemctl ") for line in logged if " is-" not in line]
 
-    def folder_of_pages(self) -> Path:
-        """What the program's package and the Python package have in common."""
-        share = Path(self.enterContext(tempfile.TemporaryDirectory()), "share")
-        for name in SCRIPTS:
-            shutil.copytree(self.scratch / name / SHARED, share, dirs_exist_ok=True)
-        return share
+    def unpacked(self) -> Path:
+        """What all packages hold, in one folder."""
+        system = Path(self.enterContext(tempfile.TemporaryDirectory()), "system")
+        for name in self.packages:
+            shutil.copytree(self.scratch / name, system, dirs_exist_ok=True, symlinks=True)
+        return system
 
     def test_links_of_pages(self) -> None:
         """Each leads to a page that is installed, and to a heading of it."""
-        share = self.folder_of_pages()
-        pages = [*share.rglob("*.md")]
-        self.assertIn(share / "README.md", pages)
+        system = self.unpacked()
+        pages = [*system.rglob("*.md"), *system.rglob("*.md.gz")]
+        self.assertIn(system / SHARED / "README.md", pages)
         for page in pages:
-            for link in re.findall(r"\]\(([^)\s]+)\)", page.read_text()):
+            text = gzip.decompress(page.read_bytes()).decode() if page.suffix == ".gz" else page.read_text()
+            for link in re.findall(r"\]\(([^)\s]+)\)", text):
                 name, _, heading = link.partition("#")
                 if ":" not in name:
                     target = page.parent / name if name else page
                     self.assertTrue(target.exists(), f"{page}: {link}")
                     self.assertTrue(not heading or heading in headings(target), f"{page}: {link}")
+
+    def test_pointers_to_pages(self) -> None:
+        """What the README.Debian of a package names under /usr, and what a manual page names there, is installed."""
+        system, named = self.unpacked(), {}
+        for name in ("rtfilter", "librtfilter-dev", "python3-rtfilter"):
+            named[name] = (system / f"usr/share/doc/{name}/README.Debian").read_text()
+        named |= {f"{it}(1)": (ROOT / f"docs/{it}.1").read_text().partition(".SH SEE ALSO\n")[2] for it in COMMANDS}
+        for name, text in named.items():
+            paths = re.findall(r"/usr/[\w./-]*\w", text)
+            self.assertTrue(paths, name)
+            for path in paths:
+                self.assertTrue((system / path[1:]).exists(), f"{name}: {path}")
 
 
 def log_calls(folder: Path, log: Path, *tools: str) -> None:

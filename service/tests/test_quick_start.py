@@ -13,7 +13,8 @@ from typing import Any
 from served import BOXES, MOMENT, PROGRAM, ROOT, Case
 
 QUICK_START, PAGE = ROOT / "docs/quick-start.md", ROOT / "docs/service.md"
-TYPED = re.compile(r"^```\n\$ (rtfilter-serve .*) &\n\$ (echo .*)\n((?:.*\n)*?)\$ kill -HUP %1\n```$", re.MULTILINE)
+STARTED = re.compile(r"^```\n\$ (rtfilter-serve .*) &\n((?:.*\n)*?)```$", re.MULTILINE)
+TYPED = re.compile(r"^```\n\$ (echo .*)\n((?:.*\n)*?)\$ kill -HUP %1\n```$", re.MULTILINE)
 
 
 class Typed(Case):
@@ -53,22 +54,27 @@ class Typed(Case):
         served, netcat = re.findall(r"^```\n\$ ((?:rtfilter-serve|printf).*?)^```$", PAGE.read_text(), re.MULTILINE | re.DOTALL)
         command, *expected = served.splitlines()
         with self.started(command) as service:
-            assert service.stderr
-            logged = [service.stderr.readline().rstrip("\n") for _ in expected]
-            self.assertEqual([MOMENT.sub("", line) for line in logged], [MOMENT.sub("", line) for line in expected])
-            self.assertTrue(all(map(MOMENT.match, [*logged, *expected])))
+            self.logs(service, expected)
             command, *shown = netcat.splitlines()
             self.assertEqual(self.typed(command).splitlines(), shown)
 
     def test_the_quick_start(self) -> None:
         """A query is answered over the socket, and again after SIGHUP has replaced the table."""
-        ((serve, ask, shown),) = TYPED.findall(QUICK_START.read_text(encoding="utf-8"))
+        page = QUICK_START.read_text(encoding="utf-8")
+        ((serve, log),), ((ask, shown),) = STARTED.findall(page), TYPED.findall(page)
         with self.started(serve) as service:
-            self.wait_for_table(service)
+            self.logs(service, log.splitlines())
             self.assertEqual(self.typed(ask), shown)
             service.send_signal(signal.SIGHUP)
             self.wait_for_table(service)
             self.assertEqual(self.typed(ask), shown)
+
+    def logs(self, service: "subprocess.Popen[str]", expected: list[str]) -> None:
+        """It begins with the lines that the page shows, at other times."""
+        assert service.stderr
+        logged = [service.stderr.readline().rstrip("\n") for _ in expected]
+        self.assertEqual([MOMENT.sub("", line) for line in logged], [MOMENT.sub("", line) for line in expected])
+        self.assertTrue(all(map(MOMENT.match, [*logged, *expected])))
 
     def wait_for_table(self, service: "subprocess.Popen[str]") -> None:
         """Waits until a table is loaded, which a line of the log says."""

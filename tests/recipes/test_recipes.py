@@ -51,6 +51,16 @@ class Recipes(unittest.TestCase):
         self.assertEqual(sum(len(examples) for _, examples in sections().values()), commands)
         self.assertGreater(commands, 30)
 
+    def test_that_no_coordinate_is_clamped(self) -> None:
+        """A longitude that 32 bits don't hold is reported, by each awk."""
+        (line,) = [it for _, examples in sections().values() for it, _ in examples if it.startswith("awk ") and it.endswith(" > table.csv\n")]
+        for awk in filter(shutil.which, ("mawk", "gawk")):
+            scratch = Path(self.enterContext(tempfile.TemporaryDirectory()))
+            (scratch / "rtfilter").symlink_to(PROGRAM)
+            (scratch / "places.csv").write_text("far,214.7483648,0\n")
+            shown = pages.printed(f"{awk}{line.removeprefix('awk')}rtfilter table.csv /dev/null", scratch, scratch)
+            self.assertEqual(shown, "rtfilter: table record 1: field 2 is out of range\n", awk)
+
     def test_that_tools_are_named(self) -> None:
         """A section whose commands call a tool that not every machine has names it: it is skipped there."""
         for title, (tools, examples) in sections().items():
