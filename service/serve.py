@@ -4,6 +4,10 @@
 The table is exchanged for what its file then holds on SIGHUP. docs/service.md has the rules.
 """
 
+import signal
+
+signal.pthread_sigmask(signal.SIG_BLOCK, [signal.SIGHUP])  # it would end the process, until the service handles it
+
 import argparse
 import asyncio
 import contextlib
@@ -11,7 +15,6 @@ import os
 import resource
 import selectors
 import shutil
-import signal
 import stat
 import sys
 from collections.abc import Callable, Sequence

@@ -162,6 +162,23 @@ class Exchanges(Case):
         service.logs("^the table is exchanged: 1 boxes$", 2)
         self.assertEqual(service.ask(b"find all"), b"7 0\nok 1 1\n")
 
+    def test_a_signal_as_it_starts(self) -> None:
+        """The service isn't ended while its modules are loaded, and loads the table once more as soon as it is ready."""
+        early = """
+import os, runpy, signal, sys
+class Early:
+    def find_spec(name, *_):
+        if name == "argparse":
+            os.kill(os.getpid(), signal.SIGHUP)
+sys.meta_path.insert(0, Early)
+sys.argv = sys.argv[3:]
+sys.path.insert(0, os.path.dirname(sys.argv[0]))
+runpy.run_path(sys.argv[0], run_name="__main__")
+"""
+        service = self.served(before=[sys.executable, "-c", early])
+        service.logs("^the table is exchanged: 5 boxes$")
+        self.assert_well(service)
+
     def test_a_signal_to_all_processes(self) -> None:
         """As systemctl kill sends it, or a terminal that hangs up: none of them ends by it, not while it is loaded either."""
         program, may_load = self.slow_program()

@@ -1,9 +1,12 @@
 """The command rtfilter-fence: positions on standard input, events on standard output."""
 
+import signal
+
+signal.signal(signal.SIGHUP, signal.SIG_IGN)  # it would end the command; the zones are loaded later anyway
+
 import argparse
 import os
 import queue
-import signal
 import sys
 import threading
 from collections.abc import Callable

@@ -4,12 +4,14 @@ import json
 import math
 import os
 import stat
-from typing import NamedTuple
+from typing import BinaryIO, NamedTuple
 
 from .devices import Devices
 from .zones import Zone
 
 BLOCK = 1 << 16  # bytes read at once
+EVENT = b'{"line": '  # how an event begins
+MESSAGE = b"rtfilter-fence: "  # how a message begins, which may be written to the same file
 
 
 class Change(NamedTuple):
@@ -49,23 +51,32 @@ class Past(NamedTuple):
 def resume(file: str, devices: Devices) -> Past:
     """Puts devices where a log leaves them, and removes its last line from the file where that was cut off.
 
-    A file that isn't there is an empty log. Raises OSError, and Refused for one device too many.
+    A file that isn't there is an empty log. Raises OSError, Refused for one device too many, and ValueError where there is no such
+    folder, and where the file has lines of which none is an event. The file is left as it is then.
     """
     try:
-        cut = cut_fragment(file)
-        lines = open(file, encoding="utf-8", errors="replace")
+        log = open(file, "rb")
     except FileNotFoundError:
+        if not os.path.isdir(os.path.dirname(file) or "."):
+            raise ValueError(f"{file}: its folder doesn't exist: make it, or give --resume another path") from None
         return Past()
-    strays, last = 0, None
-    with lines:
-        for text in lines:
-            event = event_of(text)
+    strays, last, is_other = 0, None, False
+    with log:
+        unread, cut = sizes_of(log)
+        while unread > 0 and (line := log.readline()):
+            unread -= len(line)
+            event = event_of(line.decode(errors="replace"))
             if event is None:
                 strays += 1
+                is_other |= not line.startswith(MESSAGE)
                 continue
             last = event
             if event.change is not None:
                 devices.put_back(event.device, event.change.time, event.change.zone, event.change.is_in)
+        if last is None and (is_other or cut and not EVENT.startswith(log.read(min(cut, len(EVENT))))):
+            raise ValueError(f"{file}: no line is an event: give --resume the log of a fence")
+    if cut:
+        os.truncate(file, os.path.getsize(file) - cut)
     return Past(last, strays, cut)
 
 
@@ -86,19 +97,17 @@ def event_of(text: str) -> Event | None:
     return Event(line, device, change) if math.isfinite(change.time) else None
 
 
-def cut_fragment(file: str) -> int:
-    """Removes what stands behind the last line feed of a file, and returns how many bytes that were. What isn't a regular file,
-    as a pipe, is left as it is."""
-    if not stat.S_ISREG(os.stat(file).st_mode):
-        return 0
-    with open(file, "rb") as lines:
-        size = lines.seek(0, os.SEEK_END)
-        whole = 0  # bytes
-        for start in range((size - 1) // BLOCK * BLOCK, -1, -BLOCK):
-            lines.seek(start)
-            if found := lines.read(BLOCK).rfind(b"\n") + 1:
-                whole = start + found
-                break
-    if whole < size:
-        os.truncate(file, whole)
-    return size - whole
+def sizes_of(log: BinaryIO) -> tuple[float, int]:
+    """How many bytes the whole lines of a log have, and how many stand behind the last line feed. All of what isn't a regular file,
+    as a pipe, counts as whole lines."""
+    if not stat.S_ISREG(os.fstat(log.fileno()).st_mode):
+        return math.inf, 0
+    size = log.seek(0, os.SEEK_END)
+    whole = 0
+    for start in range((size - 1) // BLOCK * BLOCK, -1, -BLOCK):
+        log.seek(start)
+        if found := log.read(BLOCK).rfind(b"\n") + 1:
+            whole = start + found
+            break
+    log.seek(0)
+    return whole, size - whole

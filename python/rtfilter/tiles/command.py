@@ -1,11 +1,14 @@
 """The command rtfilter-tiles: loads a table, listens, and loads it anew on SIGHUP."""
 
+import signal
+
+signal.signal(signal.SIGHUP, signal.SIG_IGN)  # it would end the command; the table is loaded later anyway
+
 import argparse
 import asyncio
 import hashlib
 import logging
 import logging.handlers
-import signal
 from pathlib import Path
 
 from aiohttp import web

@@ -76,6 +76,23 @@ def test_zones_that_are_not_taken(start: Start, zones: Path) -> None:
     assert brief(fence.events.some(1)) == [("a", "leave", "park")]
 
 
+def test_a_signal_as_it_starts() -> None:
+    """It isn't ended by SIGHUP while its modules are loaded."""
+    early = """
+import os, signal, sys
+class Early:
+    def find_spec(name, *_):
+        if name == "rtfilter.fence.devices":
+            os.kill(os.getpid(), signal.SIGHUP)
+sys.meta_path.insert(0, Early)
+from rtfilter.fence.command import main
+main()
+"""
+    words = [*COMMAND[:2], "-c", early, "--version"]
+    done = subprocess.run(words, stdout=subprocess.PIPE, timeout=LONGEST, env=environment())
+    assert done.returncode == 0 and done.stdout.startswith(b"rtfilter-fence ")
+
+
 def test_each_of_many_signals_is_met(start: Start, zones: Path) -> None:
     """Also one that comes just as the fence begins to read its input, on which nothing comes."""
     fence = start()

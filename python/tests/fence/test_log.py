@@ -194,6 +194,34 @@ def test_lines_that_are_no_events(zones: Path, log: Path) -> None:
     assert brief(events) == [("a", "leave", 12)]
 
 
+@pytest.mark.parametrize("text", [b"a,1,1,1\nb,2,2", b"a,1,1,1\n", b"a,1", b'{"lines": 5', b"rtfilter-fence: zones: 4\nx\n"])
+def test_a_file_that_is_no_log(text: bytes, zones: Path, log: Path) -> None:
+    """It is refused, and not a byte of it is removed."""
+    log.write_bytes(text)
+    why = f"rtfilter-fence: {log}: no line is an event: give --resume the log of a fence\n"
+    assert start(zones, log, b"a,1,1,1\n", "--resume", str(log)) == (1, why)
+    assert log.read_bytes() == text
+
+
+@pytest.mark.parametrize("text", [b"rtfilter-fence: zones: 4\n", b'rtfilter-fence: zones: 4\n{"line": 2, "ev', b"{"])
+def test_a_log_without_events_yet(text: bytes, zones: Path, log: Path) -> None:
+    """Messages that were written to the same file, and an event that was cut off, are no other file."""
+    log.write_bytes(text)
+    assert start(zones, log, b"a,1,1,1\n", "--resume", str(log))[0] == 0
+    kept = text[: text.rfind(b"\n") + 1]
+    assert log.read_bytes() == kept + whole_log(zones, b"a,1,1,1\n")
+
+
+def test_a_log_in_no_folder(zones: Path, log: Path) -> None:
+    """Its path is refused, since no log can be there; a log that isn't there yet is an empty one."""
+    status, said = start(zones, log, b"a,1,1,1\n", "--resume", str(log / "none"))
+    assert (status, said) == (1, f"rtfilter-fence: [Errno 20] Not a directory: '{log}/none'\n")
+    nowhere = log.with_name("nowhere") / "log"
+    status, said = start(zones, log, b"a,1,1,1\n", "--resume", str(nowhere))
+    why = f"rtfilter-fence: {nowhere}: its folder doesn't exist: make it, or give --resume another path\n"
+    assert (status, said, log.read_bytes()) == (1, why, b"")
+
+
 def test_a_log_from_a_pipe(zones: Path) -> None:
     """What comes from a pipe, whose end can't be removed, is read all the same."""
     reading, writing = os.pipe()

@@ -19,8 +19,8 @@ from typing import Any
 
 from chromium import Chromium
 from style_rules import faults_of
-from support import LONGEST, ROOT
-from tiles_support import BOXES, PATIENCE, Mapped, Server, make_map, wants
+from support import LONGEST, ROOT, environment
+from tiles_support import BOXES, COMMAND, PATIENCE, Mapped, Server, make_map, wants
 
 from rtfilter.tiles.mercator import HALF, window_of
 
@@ -302,6 +302,22 @@ class Reloads(unittest.TestCase):
         lines = "".join(f"{at},{at},{at + 10},0,10\n" for at in range(boxes))
         (self.folder / "new").write_text(lines + rest)
         (self.folder / "new").replace(self.table)
+
+    def test_a_signal_as_it_starts(self) -> None:
+        """It isn't ended while its modules are loaded."""
+        early = """
+import os, signal, sys
+class Early:
+    def find_spec(name, *_):
+        if name == "rtfilter.tiles.boxes":
+            os.kill(os.getpid(), signal.SIGHUP)
+sys.meta_path.insert(0, Early)
+from rtfilter.tiles.command import main
+main()
+"""
+        words = [*COMMAND[:2], "-c", early, "--version"]
+        done = subprocess.run(words, stdout=subprocess.PIPE, timeout=LONGEST, env=environment())
+        self.assertTrue(done.returncode == 0 and done.stdout.startswith(b"rtfilter-tiles "), done)
 
     def test_the_table_is_exchanged(self) -> None:
         """Requests are answered all the while. A faulty table changes nothing."""
