@@ -170,9 +170,9 @@ class Early:
     def find_spec(name, *_):
         if name == "argparse":
             os.kill(os.getpid(), signal.SIGHUP)
+signal.signal(signal.SIGHUP, signal.SIG_DFL)
 sys.meta_path.insert(0, Early)
 sys.argv = sys.argv[3:]
-sys.path.insert(0, os.path.dirname(sys.argv[0]))
 runpy.run_path(sys.argv[0], run_name="__main__")
 """
         service = self.served(before=[sys.executable, "-c", early])

@@ -311,6 +311,7 @@ class Early:
     def find_spec(name, *_):
         if name == "rtfilter.tiles.boxes":
             os.kill(os.getpid(), signal.SIGHUP)
+signal.signal(signal.SIGHUP, signal.SIG_DFL)
 sys.meta_path.insert(0, Early)
 from rtfilter.tiles.command import main
 main()
