@@ -348,7 +348,7 @@ main()
     def test_several_on_one_port(self) -> None:
         """With --reuse-port another process may listen too, and goes on where the first ends."""
         with Server(self.table, "--reuse-port") as one:
-            with self.assertRaisesRegex(RuntimeError, "in use"):
+            with self.assertRaisesRegex(RuntimeError, f"^rtfilter-tiles: --port {one.port}: the port is in use on 127.0.0.1: choose another port\n$"):
                 Server(self.table, "--port", str(one.port))
             with Server(self.table, "--reuse-port", "--port", str(one.port)) as other:
                 self.assertEqual(one.end(), (0, ""))
