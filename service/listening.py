@@ -21,12 +21,14 @@ def unix_listener(path: str, mode: int) -> Iterator[socket.socket]:
     """A Unix socket at a path, with a mode that it has from the first. One on which nobody listens is replaced; what
     stands there at the end is removed if it is this one."""
     with socket.socket(socket.AF_UNIX) as listener:
-        with locked(path):
+        with explained(path), locked(path):
             remove_if_unused(path)
             mask = os.umask(0o777 & ~mode)
             try:
                 listener.bind(path)
             except OSError as error:
+                if error.errno == errno.EADDRINUSE and not stat.S_ISSOCK(os.lstat(path).st_mode):
+                    raise FileExistsError(f"--unix {path}: it is no socket, and isn't replaced: choose another path") from None
                 error.filename = path
                 raise
             finally:
@@ -39,6 +41,17 @@ def unix_listener(path: str, mode: int) -> Iterator[socket.socket]:
             with contextlib.suppress(OSError), locked(path):
                 if os.path.samestat(own, os.lstat(path)):
                     os.unlink(path)
+
+
+@contextlib.contextmanager
+def explained(path: str) -> Iterator[None]:
+    """Has errors of a path say which option it is of, and what to do."""
+    try:
+        yield
+    except FileNotFoundError:
+        raise FileNotFoundError(f"--unix {path}: its folder doesn't exist: make it, or choose another path") from None
+    except PermissionError:
+        raise PermissionError(f"--unix {path}: this user may make no socket in its folder: choose another path") from None
 
 
 @contextlib.contextmanager
@@ -69,9 +82,15 @@ def remove_if_unused(path: str) -> None:
             os.unlink(path)
 
 
-def tcp_listener(host: str, port: int) -> socket.socket:
+def tcp_listener(option: str, host: str, port: int) -> socket.socket:
+    """A TCP socket at the place that an option names."""
     family = socket.AF_INET6 if ":" in host else socket.AF_INET
-    return socket.create_server((host, port), family=family, backlog=BACKLOG)
+    try:
+        return socket.create_server((host, port), family=family, backlog=BACKLOG)
+    except OSError as error:
+        if error.errno != errno.EADDRINUSE:
+            raise
+        raise OSError(f"{option} {name_of((host, port))}: the port is in use: choose another port") from None
 
 
 def given_listeners() -> list[socket.socket]:

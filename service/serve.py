@@ -29,6 +29,7 @@ from service import NO_SERVICE, SIGNALS, Service, log
 VERSION = "0.4.0"
 LOOPBACK = "127.0.0.1"
 MOST_CONNECTIONS = 1 << 20  # as prefork.c has it
+MOST_BOXES = 1 << 24  # as the program has it
 LONGEST = 1e8  # seconds, three years
 
 
@@ -40,10 +41,10 @@ def main(words: Sequence[str]) -> int:
             prepare()
             listeners = [stack.enter_context(listener) for listener in given_listeners()]
             listeners += [stack.enter_context(unix_listener(path, args.mode)) for path in args.unix]
-            listeners += [stack.enter_context(tcp_listener(*place)) for place in args.tcp]
+            listeners += [stack.enter_context(tcp_listener("--tcp", *place)) for place in args.tcp]
             if not listeners:
                 parser.error("nowhere to listen: --unix, --tcp, or a socket of systemd")
-            health_listener = stack.enter_context(tcp_listener(*args.health)) if args.health else None
+            health_listener = stack.enter_context(tcp_listener("--health", *args.health)) if args.health else None
             library = library_of(args.program)
             for listener in listeners:
                 log(f"listening on {name_of(listener.getsockname())}")
@@ -106,8 +107,8 @@ def parser_of_words() -> argparse.ArgumentParser:
     add("--version", action="version", version=f"%(prog)s {VERSION}", help="print the version")
     own: dict[str, Any] = {"dest": "options", "default": []}
     add("-H", "--header", action="append_const", const="--header", help="skip the table's first record", **own)
-    add("--fanout", metavar="M", action="append", type="--fanout={}".format, help="most children of a node, 2 to 64 (default 16)", **own)
-    add("--max-entries", metavar="N", action="append", type="--max-entries={}".format,
+    add("--fanout", metavar="M", action="append", type=passed_on("--fanout", 2, 64), help="most children of a node, 2 to 64 (default 16)", **own)
+    add("--max-entries", metavar="N", action="append", type=passed_on("--max-entries", 1, MOST_BOXES),
         help="most boxes of the table, 1 to 16777216 (default 16777216)", **own)  # fmt: skip
     return parser
 
@@ -121,6 +122,12 @@ def within(kind: Callable[[str], float], least: float, most: float, written: str
         raise argparse.ArgumentTypeError(f"{word!r} is no number from {written.format(least)} to {written.format(most)}")
 
     return number
+
+
+def passed_on(option: str, least: int, most: int) -> Callable[[str], str]:
+    """Reads a whole number in a range, and gives the option to the program."""
+    number = within(int, least, most)
+    return lambda word: f"{option}={number(word)}"
 
 
 def host_and_port(word: str) -> tuple[str, int]:

@@ -156,9 +156,16 @@ class Service:
     def _request_reload(self) -> None:
         if not self._is_reload_requested:  # else it is one of a storm of signals, which are to cost little
             if len(self._tables) > 1:
-                log("the exchange waits until another one is over")
+                log(f"the exchange waits until another one is over: {self._exchange()}")
             self._is_reload_requested = True
             self._state_changed()
+
+    def _exchange(self) -> str:
+        """What an exchange waits for."""
+        old, fresh = self._tables[0], self._tables[-1]
+        if fresh is not self._table:
+            return f"a table is loaded, for at most {self._args.load_timeout:g} seconds (--load-timeout)"
+        return f"connections to the old table: {len(old.running)}, for at most {self._args.drain:g} seconds (--drain)"
 
     def _state_changed(self) -> None:
         """Wakes what waits for a state. Connections are accepted only while a table can take them at once: else they

@@ -78,17 +78,21 @@ def whole(array: NDArray[Any], what: str) -> NDArray[Any]:
     if isinstance(array, numpy.ma.MaskedArray) and array.mask.any():
         raise TypeError(f"{what}: a number is masked")
     if array.dtype.kind == "O":
-        return numpy.array([_whole(it, what) for it in array.flat], dtype=object).reshape(array.shape)
+        width = array.size // max(len(array), 1)
+        numbers = [_whole(it, what, at, width) for at, it in enumerate(array.flat)]
+        return numpy.array(numbers, dtype=object).reshape(array.shape)
     if array.dtype.kind not in "iu":
         raise TypeError(f"{what}: numbers are {array.dtype}, and not whole{FLOATS * (array.dtype.kind == 'f')}")
     return numpy.asarray(array)
 
 
-def _whole(number: Any, what: str) -> int:
+def _whole(number: Any, what: str, at: int, width: int) -> int:
+    """A number of an array, at this place of its rows, which are so wide."""
     try:
         return index(number)
     except TypeError:
-        raise TypeError(f"{what}: {number!r} isn't a whole number{FLOATS * isinstance(number, float)}") from None
+        help = FLOATS * isinstance(number, float)
+        raise TypeError(f"{what}: row {at // width}: {number!r} isn't a whole number{help}") from None
 
 
 def first_beyond(columns: Columns, formats: Sequence[str]) -> tuple[int, int] | None:

@@ -137,6 +137,16 @@ def test_faulty_rows(rows: list[Any], fault: tuple[int, int, int], as_array: boo
     assert (raised.value.kind, raised.value.record, raised.value.field) == fault
 
 
+def test_rows_that_are_not_whole() -> None:
+    """An error has the row and the number, of a list, of an array of objects and of a column."""
+    rows = [(1, 2, 3, 4), (1, 2, 16.5, 4)]
+    for bounds in (rows, numpy.array(rows, object)):
+        with pytest.raises(TypeError, match="^bounds: row 1: 16.5 isn't a whole number: scale and round floats, or use rtfilter"):
+            Rtfilter.from_bounds(bounds)
+    with pytest.raises(TypeError, match="^ids: row 1: 'a' isn't a whole number$"):
+        Rtfilter.from_bounds([(1, 2, 3, 4)] * 2, ids=numpy.array([5, "a"], object))
+
+
 def test_numbers_are_never_wrapped() -> None:
     for kind, number in (("i8", 2**32), ("u4", 2**31), ("u8", 2**63), ("i8", -(2**31) - 1)):
         with pytest.raises(TableError, match="out of range"):
@@ -162,7 +172,7 @@ FRAME = pandas.DataFrame(ROWS, columns=NAMES)
         ([ROWS[0], (2, None, 1, 0, 1)], "row 1: min_x is None, and not a whole number"),
         (numpy.array(ROWS, float), "the table: numbers are float64, and not whole"),
         (numpy.array([(1, 0, numpy.nan, 0, 1)]), "the table: numbers are float64, and not whole"),
-        (numpy.array([(1, 0, 1.0, 0, 1)], object), "the table: 1.0 isn't a whole number: scale and round floats"),
+        (numpy.array([(1, 0, 1.0, 0, 1)], object), "the table: row 0: 1.0 isn't a whole number: scale and round floats"),
         (numpy.array(ROWS, bool), "the table: numbers are bool, and not whole"),
         (numpy.ma.array(ROWS, mask=[[0] * 5] * 4 + [[0, 0, 0, 0, 1]]), "the table: a number is masked"),
         (numpy.zeros((3, 4), "i8"), r"the table: the shape is (3, 4), and not (n, 5 or 6)"),
@@ -170,7 +180,7 @@ FRAME = pandas.DataFrame(ROWS, columns=NAMES)
         (FRAME.drop(columns="max_y"), "the table: there is no column max_y among id, min_x, max_x, min_y"),
         (FRAME.assign(maxY=1), "the table: the columns max_y and maxY are both max_y"),
         (FRAME.assign(min_x=FRAME.min_x / 2), "the table: numbers are float64, and not whole"),
-        (FRAME.astype("Int64").replace(30, pandas.NA), "the table: <NA> isn't a whole number"),
+        (FRAME.astype("Int64").replace(30, pandas.NA), "the table: row 2: <NA> isn't a whole number"),
         (7, "a table is the name of a file, rows, an array or a frame, and not 7"),
     ],
 )

@@ -253,7 +253,7 @@ class Ends(Case):
             table.unlink(missing_ok=True)
             if text is not None:
                 table.write_text(text)
-            words = ["--fanout", "1"] if status == 2 else []
+            words = ["--fanout", "4", "--fanout", "5"] if status == 2 else []
             service = self.served(table, *words)
             self.assertEqual(service.process.wait(10), status)
             self.assertEqual(service.log, f"listening on {service.path}\n{message}\n")

@@ -156,11 +156,23 @@ class Exchanges(Case):
         until(lambda: len(service.programs) == 2, "the load")
         self.assertEqual(service.ask(b"count all"), b"ok 1 5\n")
         service.signal(signal.SIGHUP)
-        service.logs("^the exchange waits until another one is over$")
+        service.logs(r"^the exchange waits until another one is over: a table is loaded, for at most 300 seconds \(--load-timeout\)$")
         self.assertNotIn("the table is exchanged", service.log)
         may_load.touch()
         service.logs("^the table is exchanged: 1 boxes$", 2)
         self.assertEqual(service.ask(b"find all"), b"7 0\nok 1 1\n")
+
+    def test_while_the_old_one_has_connections(self) -> None:
+        """The log says how many there are, and when they are ended."""
+        service = self.served(self.table, "--drain", "120")
+        with service.connect() as one, service.connect() as other:
+            self.count(one)
+            self.count(other)
+            service.exchange()
+            service.signal(signal.SIGHUP)
+            what = r"connections to the old table: 2, for at most 120 seconds \(--drain\)"
+            service.logs(f"^the exchange waits until another one is over: {what}$")
+        service.logs("^the table is exchanged: 5 boxes$", 2)
 
     def test_a_signal_as_it_starts(self) -> None:
         """The service isn't ended while its modules are loaded, and loads the table once more as soon as it is ready."""
@@ -170,9 +182,9 @@ class Early:
     def find_spec(name, *_):
         if name == "argparse":
             os.kill(os.getpid(), signal.SIGHUP)
+signal.signal(signal.SIGHUP, signal.SIG_DFL)
 sys.meta_path.insert(0, Early)
 sys.argv = sys.argv[3:]
-sys.path.insert(0, os.path.dirname(sys.argv[0]))
 runpy.run_path(sys.argv[0], run_name="__main__")
 """
         service = self.served(before=[sys.executable, "-c", early])

@@ -47,10 +47,37 @@ class Sockets(Case):
         self.assert_well(service)
         link = Path(self.folder, "link")
         link.symlink_to(Path(self.folder, "nowhere"))
-        for path in (service.path, str(BOXES), str(link)):
-            message = f"rtfilter-serve: [Errno 98] Address already in use: '{path}'\n"
-            self.assertEqual(run("--unix", path, BOXES), (1, message))
+        other = "rtfilter-serve: --unix {}: it is no socket, and isn't replaced: choose another path\n"
+        in_use = "rtfilter-serve: [Errno 98] Address already in use: '{}'\n"
+        for path, message in ((service.path, in_use), (str(BOXES), other), (str(link), other), (self.folder, other)):
+            self.assertEqual(run("--unix", path, BOXES), (1, message.format(path)))
         self.assert_well(service)
+
+    def test_a_folder_that_is_not_there(self) -> None:
+        path = f"{self.folder}/none/socket"
+        message = f"rtfilter-serve: --unix {path}: its folder doesn't exist: make it, or choose another path\n"
+        self.assertEqual(run("--unix", path, BOXES), (1, message))
+
+    def test_a_folder_of_another_user(self) -> None:
+        if os.getuid():
+            self.skipTest("only root starts a service as another user")
+        os.chmod(self.folder, 0o755)
+        path = f"{self.folder}/socket"
+        command = [SYSTEM_PYTHON, "-B", str(SERVICE), "--program", PROGRAM, "--unix", path, str(BOXES)]
+        done = subprocess.run(["setpriv", "--reuid", "65534", "--clear-groups", *command], capture_output=True, text=True, timeout=20)
+        message = f"rtfilter-serve: --unix {path}: this user may make no socket in its folder: choose another path\n"
+        self.assertEqual((done.returncode, MOMENT.sub("", done.stderr)), (1, message))
+
+    def test_numbers_out_of_range(self) -> None:
+        """They are refused before the service listens."""
+        for option, number, least, most in (
+            ("--fanout", "1", 2, 64), ("--fanout", "65", 2, 64), ("--fanout", "x", 2, 64),
+            ("--max-entries", "0", 1, 16777216), ("--max-entries", "16777217", 1, 16777216),
+        ):  # fmt: skip
+            status, output = run("--unix", f"{self.folder}/socket", option, number, BOXES)
+            message = f"argument {option}: {number!r} is no number from {least} to {most}"
+            self.assertEqual((status, output.splitlines()[-1]), (2, f"rtfilter-serve: error: {message}"))
+            self.assertNotIn("listening", output)
 
     def test_a_backlog_that_is_full(self) -> None:
         """Whoever listens there is left alone, even where nobody is accepted."""
@@ -135,10 +162,9 @@ class Sockets(Case):
         os.mkfifo(table)
         with socket.create_server(("127.0.0.1", 0)) as taken:
             for option in ("--tcp", "--health"):
-                words = ["--unix", Path(self.folder, "socket"), option, taken.getsockname()[1], table]
-                status, output = run(*words)
-                self.assertEqual(status, 1)
-                self.assertRegex(output, r"^rtfilter-serve: \[Errno 98\] Address already in use.*\n$")
+                port = taken.getsockname()[1]
+                message = f"rtfilter-serve: {option} 127.0.0.1:{port}: the port is in use: choose another port\n"
+                self.assertEqual(run("--unix", Path(self.folder, "socket"), option, port, table), (1, message))
         self.assertFalse(os.path.exists(Path(self.folder, "socket")))
 
     def test_loopback(self) -> None:

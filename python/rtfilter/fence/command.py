@@ -7,6 +7,7 @@ signal.signal(signal.SIGHUP, signal.SIG_IGN)  # it would end the command; the zo
 import argparse
 import os
 import queue
+import stat
 import sys
 import threading
 from collections.abc import Callable
@@ -23,6 +24,7 @@ from .zones import NamedZones
 NAME = "rtfilter-fence"
 READ = 1 << 16  # bytes at once
 INPUT, OUTPUT = 0, 1
+GO_ON = "; run it again with --resume to go on"  # where the output is a file
 
 
 def arguments() -> argparse.Namespace:
@@ -92,7 +94,7 @@ def run(args: argparse.Namespace, requests: queue.SimpleQueue[None]) -> None:
         raise ValueError(f"the input begins with line {args.first_line}, and the log goes on from line {past.next_line}")
     fence = Fence(load(), devices, past)
     devices.arrange(fence.zones.zones)
-    say(NAME, f"zones: {len(fence.zones.zones)}")
+    report(fence.zones, args.on)
 
     def keep_loaded() -> None:
         while True:
@@ -101,12 +103,19 @@ def run(args: argparse.Namespace, requests: queue.SimpleQueue[None]) -> None:
                 requests.get()
             try:
                 fence.zones = load()
-                say(NAME, f"zones: {len(fence.zones.zones)}")
+                report(fence.zones, args.on)
             except Exception as error:  # whatever it is: the old zones answer positions
                 say(NAME, f"{error}; the old zones stay")
 
     threading.Thread(target=keep_loaded, daemon=True).start()
     answer(fence, args.first_line)
+
+
+def report(zones: NamedZones, on: str) -> None:
+    """Says how many zones are loaded, and whether the layers of `--on` are those of none."""
+    say(NAME, f"zones: {len(zones.zones)}")
+    if zones.lacks_layers():
+        say(NAME, f"--on {on}: no zone is on these layers; --layer names the property that has a zone's layer")
 
 
 def resumed(file: str, devices: Devices) -> Past:
@@ -133,7 +142,11 @@ def answer(fence: Fence, number: int) -> None:
 
 
 def write(text: bytes) -> None:
-    """Writes all of a text. Raises OSError."""
+    """Writes all of a text. Raises ValueError where that fails."""
     unwritten = memoryview(text)
-    while unwritten:
-        unwritten = unwritten[os.write(OUTPUT, unwritten) :]
+    try:
+        while unwritten:
+            unwritten = unwritten[os.write(OUTPUT, unwritten) :]
+    except OSError as error:
+        is_file = stat.S_ISREG(os.fstat(OUTPUT).st_mode)
+        raise ValueError(f"standard output: {error.strerror}{GO_ON if is_file else ''}") from error

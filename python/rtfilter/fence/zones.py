@@ -53,6 +53,10 @@ class NamedZones:
             raise ValueError(f"{file}: {error}") from error
         self._held_of = lru_cache(KEPT)(self._held)
 
+    def lacks_layers(self) -> bool:
+        """Whether positions that name no layers can be in no zone, as none is on the layers `on`."""
+        return bool(self._on) and not self._held((*range(len(self.zones)),), self._on)
+
     def holding_each(self, positions: Sequence[Position]) -> list[Held]:
         """The zones that hold each position. Equal ones are mostly the same tuple."""
         holding, held_of, on = self._polygons.holding, self._held_of, self._on
@@ -71,7 +75,7 @@ def features_of(file: str) -> list[Any]:
         try:
             read = json.load(text)
         except json.JSONDecodeError as error:
-            raise ValueError(f"no JSON: {error}") from error
+            raise ValueError(f"no GeoJSON: {error}") from error
     features = read.get("features") if isinstance(read, dict) else None
     if not isinstance(features, list):
         raise ValueError("no FeatureCollection")

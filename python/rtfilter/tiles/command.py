@@ -6,6 +6,7 @@ signal.signal(signal.SIGHUP, signal.SIG_IGN)  # it would end the command; the ta
 
 import argparse
 import asyncio
+import errno
 import hashlib
 import logging
 import logging.handlers
@@ -80,7 +81,7 @@ async def serve(args: argparse.Namespace) -> None:
     await runner.setup()
     server.connections = lambda: len(runner.server.connections) if runner.server else 0
     try:
-        await web.TCPSite(runner, args.listen, args.port, reuse_port=args.reuse_port or None, shutdown_timeout=SHUTDOWN).start()
+        await listen(runner, args)
         port = runner.addresses[0][1]
         # A name may come without the port, as it does for port 80 and behind a proxy.
         for name in (*args.host, "localhost", "127.0.0.1", args.listen):
@@ -91,6 +92,17 @@ async def serve(args: argparse.Namespace) -> None:
         loading.cancel()
     finally:
         await runner.cleanup()
+
+
+async def listen(runner: web.AppRunner, args: argparse.Namespace) -> None:
+    """Has the server listen. Raises OSError."""
+    site = web.TCPSite(runner, args.listen, args.port, reuse_port=args.reuse_port or None, shutdown_timeout=SHUTDOWN)
+    try:
+        await site.start()
+    except OSError as error:
+        if error.errno != errno.EADDRINUSE:
+            raise
+        raise OSError(f"--port {args.port}: the port is in use on {args.listen}: choose another port") from None
 
 
 def loaded(args: argparse.Namespace, generation: int = 1) -> Served:

@@ -6,7 +6,7 @@ from collections.abc import Sequence
 from functools import lru_cache
 from typing import Any
 
-from .. import All, QueryError, Window
+from .. import All, QueryError, Rtfilter, Window
 from . import mvt
 from .boxes import MOST_IN_TILE, Boxes
 from .mercator import cells_of, cuts, window_of
@@ -20,6 +20,7 @@ KEPT_LEVELS = 256  # choices of layers whose deepest level with counts is kept
 
 LIMIT = re.compile(r"\+?([0-9]{1,9})")
 WITH_BOXES = ("find", "nearest")
+NO_BOXES = Rtfilter([])  # a line is invalid for every table or for none, and costs nothing here
 
 
 class Views:
@@ -68,7 +69,8 @@ class Views:
 
     def ask(self, line: str) -> dict[str, Any]:
         """The program's answer to a line, and how many nodes the query opens. Scores are texts, as ids are."""
-        fault = unbounded(line)
+        (reply,) = NO_BOXES.replies([line])
+        fault = None if isinstance(reply, QueryError) else unbounded(line)
         if fault:
             return {"fault": fault}
         reply, cost = self._found.replies([line, f"cost {line}"])

@@ -4,6 +4,7 @@ import math
 import os
 import random
 import re
+import signal
 import subprocess
 import sys
 from fractions import Fraction
@@ -139,7 +140,7 @@ def test_each_read_is_answered_before_the_next(zones: Path) -> None:
         ([5], "features[0]: no feature"),
         (b"[" * 100_000, "lists in lists, too deep to be read"),
         (b"{}", "no FeatureCollection"),
-        (b"x", "no JSON: Expecting value: line 1 column 1 (char 0)"),
+        (b"x", "no GeoJSON: Expecting value: line 1 column 1 (char 0)"),
         (b'"\xff"', "'utf-8' codec can't decode byte 0xff in position 1: invalid start byte"),
     ],
 )
@@ -151,6 +152,23 @@ def test_zones_that_are_not_taken(features: Any, why: str, tmp_path: Path) -> No
         write_zones(file, features)
     with Running(file) as fence:
         assert fence.ended() == (1, [f"rtfilter-fence: {file}: {why}"])
+
+
+def test_layers_of_no_zone(tmp_path: Path) -> None:
+    """A message says that --on names none; it comes with each load."""
+    file = tmp_path / "zones.geojson"
+    write_zones(file, [feature(1, square(0, 0, 1), layer=7), feature(2, square(5, 0, 1))])
+    said = "rtfilter-fence: --on 99;x: no zone is on these layers; --layer names the property that has a zone's layer"
+    for options, more in ((["--on", "99;7"], []), (["--on", "99;x"], [said]), ([], [])):
+        with Running(file, *options) as fence:
+            assert fence.ended() == (0, ["rtfilter-fence: zones: 2", *more])
+    with Running(file, "--on", "99;x") as fence:
+        fence.logs(said)
+        for layer, more in (("x", []), ("y", [said])):
+            write_zones(file, [feature(1, square(0, 0, 1), layer=layer)])
+            fence.process.send_signal(signal.SIGHUP)
+            assert [fence.errors.next() for _ in ["", *more]] == ["rtfilter-fence: zones: 1", *more]
+        assert fence.ended() == (0, [])
 
 
 def test_options(zones: Path) -> None:

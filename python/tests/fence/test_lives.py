@@ -62,7 +62,7 @@ def test_zones_that_are_not_taken(start: Start, zones: Path) -> None:
     for text, why in (
         ('{"features": [{"geometry": null}]}', f"rtfilter-fence: {zones}: polygons[0]: dict is no Polygon and no MultiPolygon{KEPT}"),
         (None, f"rtfilter-fence: [Errno 2] No such file or directory: '{zones}'{KEPT}"),
-        ("[", f"rtfilter-fence: {zones}: no JSON: Expecting value: line 1 column 2 (char 1){KEPT}"),
+        ("[", f"rtfilter-fence: {zones}: no GeoJSON: Expecting value: line 1 column 2 (char 1){KEPT}"),
     ):
         zones.unlink(missing_ok=True)
         if text is not None:
@@ -84,6 +84,7 @@ class Early:
     def find_spec(name, *_):
         if name == "rtfilter.fence.devices":
             os.kill(os.getpid(), signal.SIGHUP)
+signal.signal(signal.SIGHUP, signal.SIG_DFL)
 sys.meta_path.insert(0, Early)
 from rtfilter.fence.command import main
 main()
@@ -209,7 +210,7 @@ def test_a_reader_that_leaves(start: Start) -> None:
     assert fence.process.stdout is not None
     fence.process.stdout.close()
     fence.send("a,1,1,1")
-    assert fence.ended() == (1, ["rtfilter-fence: [Errno 32] Broken pipe"])
+    assert fence.ended() == (1, ["rtfilter-fence: standard output: Broken pipe"])
     fence.process.stdout = open(os.devnull, "rb")
 
 

@@ -109,6 +109,23 @@ class Refusals(Mapped):
         self.assertGreater(min(answered, refused), 20)
 
 
+    def test_faults_before_limits(self) -> None:
+        """A line that is invalid has the program's fault, whether it ends with `first K` or not."""
+        limit = "here a find has to end with first K, where K is at most 1000"
+        for line, fault in (
+            ("find box", None), ("find box first 2000", None), ("cost find box", None), ("find window 1 2", None), ("find", None),
+            ("find all first x", None), ("nearest 2000 5", None), ("nearest x 5 5", None),
+            ("find all", limit), ("cost find all", limit), ("find all smallest first 1001", limit),
+        ):  # fmt: skip
+            reply, body = self.server.get("/ask?q=" + quote(line))
+            self.assertEqual(reply.status, 200)
+            found = json.loads(body)["fault"]
+            if fault is None:
+                self.assertEqual([[f"error 1 {found}"]], replies_of(self.table, [line]), line)
+            else:
+                self.assertEqual(found, fault, line)
+
+
 class Tables(unittest.TestCase):
     """What is held beside the ids is what the table says, however it says it."""
 

@@ -311,6 +311,7 @@ class Early:
     def find_spec(name, *_):
         if name == "rtfilter.tiles.boxes":
             os.kill(os.getpid(), signal.SIGHUP)
+signal.signal(signal.SIGHUP, signal.SIG_DFL)
 sys.meta_path.insert(0, Early)
 from rtfilter.tiles.command import main
 main()
@@ -347,7 +348,7 @@ main()
     def test_several_on_one_port(self) -> None:
         """With --reuse-port another process may listen too, and goes on where the first ends."""
         with Server(self.table, "--reuse-port") as one:
-            with self.assertRaisesRegex(RuntimeError, "in use"):
+            with self.assertRaisesRegex(RuntimeError, f"^rtfilter-tiles: --port {one.port}: the port is in use on 127.0.0.1: choose another port\n$"):
                 Server(self.table, "--port", str(one.port))
             with Server(self.table, "--reuse-port", "--port", str(one.port)) as other:
                 self.assertEqual(one.end(), (0, ""))
