@@ -617,7 +617,8 @@ class Checks:
         program, printed = self.page("bindings/rust/README.md", "rust")
         (crate / "examples").mkdir()
         (crate / "examples/page.rs").write_text(program)
-        words = {**os.environ, "PKG_CONFIG_PATH": f"{self.prefix}/lib/pkgconfig", "LD_LIBRARY_PATH": f"{self.prefix}/lib"}
+        words = {**os.environ, "PKG_CONFIG_PATH": f"{self.prefix}/lib/pkgconfig", "LD_LIBRARY_PATH": f"{self.prefix}/lib",
+                 "RUSTFLAGS": "-D warnings"}  # fmt: skip
         named = {**words, "RTFILTER_LIB_DIR": f"{self.prefix}/lib", "PKG_CONFIG_PATH": os.devnull}
         said = run("cargo", "test", "--offline", "--quiet", "--jobs", 1, cwd=crate, env=named)
         if sum(map(int, re.findall(r"test result: ok\. (\d+) passed", said))) < 4:

@@ -88,6 +88,7 @@ extern "C" {
     pub fn rtfilter_reply(session: *mut Session, from: usize, buffer: *mut c_char, size: usize, copied: *mut usize) -> c_int;
     pub fn rtfilter_forget(session: *mut Session) -> c_int;
     pub fn rtfilter_query_message(queries: *const Queries, index: usize) -> *const c_char;
+    #[allow(improper_ctypes)] // old Rust warns of u128, of whose place in memory `Answers` speaks
     pub fn rtfilter_find(session: *mut Session, queries: *const Queries, skip: usize, answers: *mut Answers) -> c_int;
     pub fn rtfilter_count(session: *mut Session, queries: *const Queries, counts: *mut u64, done: *mut usize) -> c_int;
     pub fn rtfilter_cost_of_find(session: *mut Session, queries: *const Queries, opened: *mut u64, done: *mut usize) -> c_int;

@@ -281,9 +281,10 @@ class Page(Mapped):
             reply, cost = replies_of(self.table, [line, f"cost {line}"])
             nodes = f"; the query opens {cost[0].split()[2]} nodes" if cost[0].startswith("ok") else ""
             self.assertEqual(self.typed(line), f"ok, {reply[-1].split()[2]}{nodes}")
-        for line in ("find window 1 first 1", "<b>x</b>", "find all on 64 first 1", "find circle 0 0 -1 first 1"):
+        for line in ("find window 1 first 1", "<b>x</b>", "find all on 64 first 1", "find circle 0 0 -1 first 1",
+                     "find all first 99999999999999999999"):
             self.assertEqual(replies_of(self.table, [line]), [[f"error 1 {self.typed(line)}"]])
-        for line in ("find all", "find all first 1001", "find all first 99999999999999999999", "nearest 1001 0 0",
+        for line in ("find all", "find all first 1001", "nearest 1001 0 0",
                      "cost find all", " cost\tfind all near 0 0 first 1001", "cost nearest 1001 0 0"):
             self.assertIn("at most 1000", self.typed(line))
 
