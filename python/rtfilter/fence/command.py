@@ -35,7 +35,7 @@ def arguments() -> argparse.Namespace:
     parser.add_argument("zones", metavar="ZONES", help="GeoJSON file of polygons, in degrees; SIGHUP loads it again")
     parser.add_argument("--layer", default="layer", metavar="PROPERTY", help="property that has a zone's layer (default layer)")
     parser.add_argument("--on", default="", metavar="LAYERS", help="layers of positions that name none, separated by ; (default all)")
-    parser.add_argument("--devices", type=int, default=1_000_000, metavar="N", help="devices that are known at a time (default 1000000)")
+    parser.add_argument("--devices", type=int, default=1_000_000, metavar="N", help="most devices; positions of a further one are refused (default 1000000)")
     parser.add_argument("--resume", metavar="LOG", help="log of an earlier run, whose lines of the input are skipped")
     parser.add_argument("--first-line", type=int, default=1, metavar="N", help="number of the first line of the input, with --resume (default 1)")
     parser.add_argument("--version", action="version", version=f"{NAME} {__version__}", help="print the version")
