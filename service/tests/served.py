@@ -212,6 +212,13 @@ class Case(unittest.TestCase):
             self.skipTest("a C compiler: not installed")
         self.folder = self.enterContext(tempfile.TemporaryDirectory())
 
+    def need_another_user(self) -> None:
+        """Skips a test that starts a service as another user where that can't be done."""
+        if os.geteuid() != 0 or shutil.which("setpriv") is None:
+            self.skipTest("root and setpriv: not there")
+        if not all(it.stat().st_mode & 1 for it in SERVICE.parents):
+            self.skipTest("a checkout that others may read: not there")
+
     def served(self, table: Path = BOXES, *words: str, **given: Any) -> Served:
         return self.enterContext(Served(self.folder, table, *words, **given))
 

@@ -4,7 +4,6 @@ import contextlib
 import os
 import random
 import re
-import shutil
 import signal
 import socket
 import struct
@@ -14,7 +13,7 @@ import time
 from pathlib import Path
 
 from served import (
-    BOXES, PROGRAM, SERVICE, SYSTEM_PYTHON, Case, Served, all_of, answers, found, read_lines, send, some_pieces,
+    BOXES, PROGRAM, SYSTEM_PYTHON, Case, Served, all_of, answers, found, read_lines, send, some_pieces,
     some_queries, table_of, talk, output_of_program, until,
 )  # fmt: skip
 
@@ -377,10 +376,7 @@ class WantOfRoom(Case):
 
     def test_processes_of_a_user(self) -> None:
         """As another user, with a limit of processes."""
-        if os.geteuid() != 0 or shutil.which("setpriv") is None:
-            self.skipTest("root and setpriv: not there")
-        if not all(it.stat().st_mode & 1 for it in SERVICE.parents):
-            self.skipTest("a checkout that others may read: not there")
+        self.need_another_user()
         os.chmod(self.folder, 0o777)
         user = 60_000 + os.getpid() % 5_000  # whom no other run of this test has, since they'd be counted together
         before = ["prlimit", "--nproc=6", "setpriv", f"--reuid={user}", f"--regid={user}", "--clear-groups"]

@@ -59,8 +59,7 @@ class Sockets(Case):
         self.assertEqual(run("--unix", path, BOXES), (1, message))
 
     def test_a_folder_of_another_user(self) -> None:
-        if os.getuid():
-            self.skipTest("only root starts a service as another user")
+        self.need_another_user()
         os.chmod(self.folder, 0o755)
         path = f"{self.folder}/socket"
         command = [SYSTEM_PYTHON, "-B", str(SERVICE), "--program", PROGRAM, "--unix", path, str(BOXES)]
@@ -264,10 +263,7 @@ class Sockets(Case):
 
 class Surroundings(Case):
     def test_as_another_user(self) -> None:
-        if os.geteuid() != 0:
-            self.skipTest("root: not there")
-        if not all(it.stat().st_mode & 1 for it in SERVICE.parents):
-            self.skipTest("a checkout that others may read: not there")
+        self.need_another_user()
         os.chmod(self.folder, 0o777)
         service = self.served(before=["setpriv", "--reuid=61235", "--regid=61235", "--clear-groups"], python=SYSTEM_PYTHON)
         self.assert_well(service)
