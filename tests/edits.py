@@ -97,8 +97,8 @@ PLANTS = [
     ),
     (
         "any end but a proof is a refusal",
-        "is_refused, text = refusal(edit, *self.check(edit.texts, \"--jobs\", \"1\"))",
-        'is_refused, text = self.check(edit.texts, "--jobs", "1")[0] != 0, "refused `anyhow`"',
+        "is_refused, text = refusal(edit, status, output)",
+        'is_refused, text = status != 0, "refused `anyhow`"',
         ["same_is_nothing", "same_not_compiled", "same_not_there"],
     ),
     (
