@@ -26,7 +26,7 @@ FLAGS = ["-std=gnu11", "-O", "-fPIC", "-shared"]
 TRIES = "-include", Path(__file__).with_name("tries.h")
 SYSTEM_PYTHON = "/usr/bin/python3"  # which other users may run too
 MOMENT = re.compile(r"^\d{4}-\d\d-\d\dT\d\d:\d\d:\d\dZ ", re.MULTILINE)  # at which a line was logged
-LONG = 120.0  # seconds after which what is waited for doesn't come, on a busy machine
+LONG = 20.0  # seconds after which what is waited for doesn't come
 
 import random_runs as random_runs  # for others too
 from prefork import library_of as library_of
