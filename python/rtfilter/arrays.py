@@ -47,7 +47,7 @@ def columns_of(value: Any, what: str, required: Sequence[str], optional: Sequenc
     widths = sorted({len(required), len(required) + len(optional)})
     if array.ndim != 2 or array.shape[1] not in widths:
         raise TypeError(f"{what}: the shape is {array.shape}, and not (n, {' or '.join(map(str, widths))})")
-    return list(whole(array, what).T)
+    return list(numpy.ascontiguousarray(whole(array, what).T))
 
 
 def _array(rows: Any, what: str) -> NDArray[Any]:
@@ -100,7 +100,9 @@ def first_beyond(columns: Columns, formats: Sequence[str]) -> tuple[int, int] | 
     found = []
     for at, (column, format) in enumerate(zip(columns, formats)):
         limits = numpy.iinfo(format)
-        if len(column) and (column.min() < limits.min or column.max() > limits.max):
+        if numpy.can_cast(column.dtype, format) or not len(column):
+            continue
+        if column.min() < limits.min or column.max() > limits.max:
             found.append((int(numpy.argmax((column < limits.min) | (column > limits.max))), at))
     return min(found, default=None)
 
