@@ -14,6 +14,7 @@
 
 enum {
     FEW = 256,            /* answers that a session has a buffer for at first */
+    FIRST = 1 << 13,      /* and many queries */
     MANY = 1 << 20,       /* answers, and bytes of a reply, that it keeps a buffer for */
     STEP = 64,            /* queries of one call of the library, at most */
     SLICE_NS = 10000000,  /* after so many nanoseconds a signal is looked for */
@@ -665,7 +666,8 @@ static int64_t nanoseconds(void)
 typedef struct {
     rtfilter_queries left; /* those that aren't answered yet */
     size_t skip;           /* how many answers of the first of them were taken */
-    Py_ssize_t place;      /* the place of the first of them */
+    Py_ssize_t place;      /* the place of the first of them, among so many */
+    Py_ssize_t total;
     uint64_t *counts;      /* where the next count goes; null where answers are found */
     int64_t *places, *ids;
     rtfilter_score *scores; /* null if there are to be none */
@@ -742,12 +744,14 @@ static int answer_slice(finding *it, worker *by)
     return code;
 }
 
-/* Grows the bytearrays of places, ids and scores, and sets where they are. */
-static bool grow(finding *it, PyObject *places, PyObject *ids, PyObject *scores)
+/* Grows the bytearrays of places, ids and scores where they are full, and sets where they are: for as many answers to the queries that
+ * are left as those so far had, within bounds. */
+static bool grow(finding *it, bool is_full, PyObject *places, PyObject *ids, PyObject *scores)
 {
-    const Py_ssize_t capacity = PyByteArray_Size(ids) / 8 - (Py_ssize_t)it->kept;
-    if (capacity < (Py_ssize_t)(it->kept + it->left.len + FEW) / 2) {
-        const Py_ssize_t items = 2 * (Py_ssize_t)it->kept + 32 * (Py_ssize_t)it->left.len + FEW;
+    const Py_ssize_t kept = (Py_ssize_t)it->kept, most = kept > MANY ? kept : MANY;
+    if (is_full || PyByteArray_Size(ids) / 8 - kept < FEW) {
+        const double expected = it->place > 0 ? 1.125 * (double)kept / (double)it->place * (double)(it->total - it->place) : 0;
+        const Py_ssize_t items = kept + FIRST + (expected > (double)most ? most : expected > (double)kept ? (Py_ssize_t)expected : kept);
         if (PyByteArray_Resize(places, 8 * items) < 0 || PyByteArray_Resize(ids, 8 * items) < 0 ||
             (scores != Py_None && PyByteArray_Resize(scores, 16 * items) < 0))
             return false;
@@ -762,9 +766,9 @@ static bool grow(finding *it, PyObject *places, PyObject *ids, PyObject *scores)
 /* Answers all queries. Counts have no bytearrays. */
 static bool answer_all(worker *by, finding *it, PyObject *places, PyObject *ids, PyObject *scores)
 {
+    int code = RTFILTER_OK;
     while (it->left.len > 0) {
-        int code;
-        if (!it->counts && !grow(it, places, ids, scores))
+        if (!it->counts && !grow(it, code == RTFILTER_FULL, places, ids, scores))
             return false;
         Py_BEGIN_ALLOW_THREADS
         code = answer_slice(it, by);
@@ -779,8 +783,8 @@ static bool answer_all(worker *by, finding *it, PyObject *places, PyObject *ids,
     return true;
 }
 
-/* _find_each(queries, place, places, ids, scores, count[, boxes, windows]): adds the answers to queries, of which the first has this
- * place, to bytearrays, behind the first `count` answers there, and returns how many there are then. Scores may be None. With
+/* _find_each(queries, place, total, places, ids, scores, count[, boxes, windows]): adds the answers to queries, of which the first has
+ * this place among so many, to bytearrays, behind the first `count` answers there, and returns how many there are then. Scores may be None. With
  * boxes by id and windows by place, in floats, the answers that don't meet are left out; there are no scores then. */
 static PyObject *find_each(Table *self, PyObject *args)
 {
@@ -789,7 +793,7 @@ static PyObject *find_each(Table *self, PyObject *args)
     Py_ssize_t lens[3] = {-1, -1, -1}, count;
     const Py_ssize_t sizes[3] = {sizeof(rtfilter_query), 4 * sizeof(double), 4 * sizeof(double)};
     finding it = {0};
-    if (!PyArg_ParseTuple(args, "OnO!O!On|OO", from, &it.place, &PyByteArray_Type, &places, &PyByteArray_Type, &ids, &scores,
+    if (!PyArg_ParseTuple(args, "OnnO!O!On|OO", from, &it.place, &it.total, &PyByteArray_Type, &places, &PyByteArray_Type, &ids, &scores,
                           &count, from + 1, from + 2))
         return NULL;
     const int needed = from[2] ? 3 : 1;

@@ -45,6 +45,7 @@ class Table:
         self,
         queries: Any,
         place: int,
+        total: int,
         places: bytearray,
         ids: bytearray,
         scores: bytearray | None,
