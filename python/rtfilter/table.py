@@ -157,7 +157,7 @@ class Rtfilter(_engine.Table, Closable, BulkCalls):
         count = 0
         for place, part in queries.parts():
             with _named(queries):
-                count = self._find_each(part, place, places, ids, scores, count, *exact)
+                count = self._find_each(part, place, len(queries), places, ids, scores, count, *exact)
         numbers = arrays.numbers_of(places, "i8", count), arrays.numbers_of(ids, "i8", count)
         return *numbers, None if scores is None else arrays.scores_of(scores, count)
 

@@ -168,7 +168,7 @@ def test_tables_of_services(serve: Serve, tmp_path: Path) -> None:
     files = [tmp_path / name for name in ("a.csv", "b.csv")]
     for file, some in zip(files, (rows[0::3], rows[1::3])):
         file.write_text("".join(",".join(map(str, it)) + "\n" for it in some))
-    clients = [Client(serve(it), timeout=20) for it in files]
+    clients = [Client(serve(it).path, timeout=20) for it in files]
     with Rtfilter(rows) as one, Tables([*clients, Rtfilter(rows[2::3])]) as many:
         assert len(many) == len(one)
         for _ in range(3 * QUERIES):
