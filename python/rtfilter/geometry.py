@@ -43,7 +43,7 @@ class STRtree:
         """A tree of rows (min_x, min_y, max_x, max_y) alone, for `query_bounds` and `query` without a predicate."""
         tree = cls.__new__(cls)
         tree.geometries = None
-        tree._boxes = FloatBoxes(rows_of(bounds, "bounds"))
+        tree._boxes = FloatBoxes(rows_of(numpy.array(bounds, "f8"), "bounds"))  # (a copy, which no caller changes)
         return tree
 
     def __reduce__(self) -> Any:

@@ -64,6 +64,13 @@ def test_decimals_are_compared_exactly(pool: int) -> None:
     assert pairs > 1000
 
 
+def test_bounds_that_their_caller_changes() -> None:
+    bounds = numpy.array([(0.0, 0.0, 1.5, 1.5), (5.0, 5.0, 6.0, 6.0)])
+    tree = STRtree.from_bounds(bounds)
+    bounds += 100
+    assert tree.query_bounds((1.2, 1.2, 1.3, 1.3)).tolist() == [0] and tree.bounds == (0, 0, 6, 6)
+
+
 def some_geometries(chance: random.Random, count: int) -> list[Any]:
     """Geometries that touch, cross and cover each other, None and empty ones among them."""
 
