@@ -8,6 +8,7 @@ from types import SimpleNamespace
 from typing import Any
 
 import numpy
+import pandas
 import pytest
 
 geopandas = pytest.importorskip("geopandas")
@@ -189,9 +190,18 @@ def test_refused(call: Any, words: str) -> None:
 @pytest.mark.parametrize("predicate", ["intersects", "within", "contains"])
 def test_joins_are_those_of_geopandas(how: str, predicate: str) -> None:
     chance, pairs = random.Random(f"{how} {predicate}"), 0
-    for index in ([*range(40)], [f"row{it}" for it in range(40)], [it // 2 for it in range(40)]):
+    plain, levels = range(100, 130), pandas.MultiIndex.from_tuples([(it // 2, it % 2) for it in range(40)], names=["p", "q"])
+    indexes: list[tuple[Any, Any]] = [
+        ([*range(40)], plain),
+        ([f"row{it}" for it in range(40)], plain),
+        ([it // 2 for it in range(40)], pandas.Index(plain, name="own")),
+        (levels, plain),
+        ([*range(40)], levels[:30]),
+        (levels, levels[:30]),
+    ]
+    for index, other in indexes:
         left = geopandas.GeoDataFrame({"n": range(40), "a": 1.5}, geometry=some_geometries(chance, 40), index=index)
-        right = geopandas.GeoDataFrame({"n": range(30), "b": "x"}, geometry=some_geometries(chance, 30), index=range(100, 130))
+        right = geopandas.GeoDataFrame({"n": range(30), "b": "x"}, geometry=some_geometries(chance, 30), index=other)
         with warnings.catch_warnings():
             warnings.simplefilter("ignore")
             expected = geopandas.sjoin(left, right, how=how, predicate=predicate)
