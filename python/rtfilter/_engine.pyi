@@ -45,6 +45,7 @@ class Table:
         self,
         queries: Any,
         place: int,
+        total: int,
         places: bytearray,
         ids: bytearray,
         scores: bytearray | None,
@@ -59,7 +60,6 @@ class Table:
 
 class Polygons:
     def __new__(cls, corners: Any, rings: Any, parts: Any, /) -> Self: ...
-    def holds(self, part: int, x: int, y: int, /) -> bool: ...
     def holds_each(self, parts: Any, points: Any, /) -> bytearray: ...
 
 def know(classes: tuple[type, ...], table_error: type, query_error: type, /) -> None: ...

@@ -86,6 +86,10 @@ class Polygon(_OwnKind, NamedTuple("Polygon", [("vertices", tuple[tuple[int, int
     def __new__(cls, vertices: Iterable[tuple[int, int]]) -> Self:
         return super().__new__(cls, tuple((x, y) for x, y in vertices))
 
+    @classmethod
+    def _make(cls, iterable: Iterable[Any]) -> Self:  # type: ignore[override]  # (which `_replace` calls too)
+        return cls(*iterable)
+
     def __str__(self) -> str:
         return " ".join([f"polygon {len(self.vertices)}", *(f"{index(x)} {index(y)}" for x, y in self.vertices)])
 

@@ -8,7 +8,7 @@ from typing import TYPE_CHECKING, Any, NoReturn, Self
 
 from . import _engine
 from .calls import BulkCalls, Closable
-from .errors import FIELD_COUNT, FLOATS, OUT_OF_RANGE, QueryError, TableError
+from .errors import FIELD_COUNT, FLOATS, OUT_OF_RANGE, REPEATED, TOO_MANY, QueryError, TableError
 from .regions import CLASSES
 from .replies import Reply, cut, joined, listed
 
@@ -79,18 +79,18 @@ class Rtfilter(_engine.Table, Closable, BulkCalls):
         sound = columns if beyond is None else [it[: beyond[0]] for it in columns]
         given = arrays.converted(sound, FORMATS)
         if beyond is not None:
-            cls._refuse(given, beyond[0] + 1, beyond[1] + 1, fanout, max_entries)
+            cls._refuse(given, TableError(OUT_OF_RANGE, beyond[0] + 1, beyond[1] + 1), fanout, max_entries)
         return cls._open_arrays(tuple([*given, None][:6]), fanout, max_entries)
 
     @classmethod
-    def _refuse(cls, before: Iterable[Any], record: int, field: int, fanout: int, max_entries: int) -> NoReturn:
-        """Raises the first fault of a table: that of the boxes before a record, or that a number of the record is out of range."""
+    def _refuse(cls, before: Iterable[Any], fault: TableError, fanout: int, max_entries: int) -> NoReturn:
+        """Raises the first fault of a table: that of the boxes before a record, or that of the record."""
         try:
             cls._open_arrays(tuple([*before, None][:6]), fanout, max_entries).close()
         except TableError as error:
-            if error.kind != 6:  # ids are compared once all records are read
+            if error.kind != REPEATED:  # ids are compared once all records are read
                 raise
-        raise TableError(OUT_OF_RANGE, record, field)
+        raise fault if fault.record <= max_entries else TableError(TOO_MANY, fault.record, 0)
 
     @classmethod
     def _open_rows(cls, rows: Iterable[Any], fanout: int, max_entries: int) -> Self:
@@ -98,12 +98,13 @@ class Rtfilter(_engine.Table, Closable, BulkCalls):
         for record, row in enumerate(rows, 1):
             fields = tuple(row)
             if len(fields) not in (5, 6):
-                raise TableError(FIELD_COUNT, record, len(fields))
+                cls._refuse(columns, TableError(FIELD_COUNT, record, len(fields)), fanout, max_entries)
             for at, (column, number) in enumerate(zip(columns, fields if len(fields) == 6 else (*fields, 0))):
                 try:
                     column.append(number)
                 except OverflowError:
-                    cls._refuse((it[: record - 1] for it in columns), record, at + 1, fanout, max_entries)
+                    before = [it[: record - 1] for it in columns]
+                    cls._refuse(before, TableError(OUT_OF_RANGE, record, at + 1), fanout, max_entries)
                 except TypeError:
                     help = FLOATS if isinstance(number, float) else ""
                     raise TypeError(f"row {record - 1}: {FIELDS[at]} is {number!r}, and not a whole number{help}") from None
@@ -157,7 +158,7 @@ class Rtfilter(_engine.Table, Closable, BulkCalls):
         count = 0
         for place, part in queries.parts():
             with _named(queries):
-                count = self._find_each(part, place, places, ids, scores, count, *exact)
+                count = self._find_each(part, place, len(queries), places, ids, scores, count, *exact)
         numbers = arrays.numbers_of(places, "i8", count), arrays.numbers_of(ids, "i8", count)
         return *numbers, None if scores is None else arrays.scores_of(scores, count)
 
