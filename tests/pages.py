@@ -5,13 +5,13 @@ usage: tests/pages.py PROGRAM
 
 In README.md, the pages of docs/ and the manual page a console example is a command after `$ `, which may go on over lines, and
 what it prints. It is run in a folder with the files of examples/data/. A block that names a tool behind `console` is run by the
-tests of that tool. A row of a table with the columns `line`
-and `reply` is a run with that line alone over boxes.csv, or over the table that the head of the column names, perhaps with
-options in front of it. The logic that pages say all is proved with is that of `rt version`, where `rt` is there. Each link of a
-page leads to a file of the repository, and to a heading of it; each page of docs/ is reached from README.md by links; each
-question of questions.md has an answer under a heading that is there; each fenced block has a row of blocks.md, which names the
-test that runs it or says why none does. Each limit of docs/limits.md is accepted, and the next number beyond it refused; its least and
-greatest score are those of two points. The last line is `N passed, M failed`.
+tests of that tool. A row of a table with the columns `line` and `reply` is a run with that line alone over boxes.csv, or over the
+table that the head of the column names, perhaps with options in front of it. The logic that pages say all is proved with is that
+of `rt version`, if `rt` is there. Each link of a page leads to a file of the repository, and to a heading of it; each page of docs/
+is reached from README.md by links; each question of questions.md has an answer under a heading that is there; each fenced block has
+a row of blocks.md, which names the test that runs it or says why none does. Each limit of docs/limits.md is accepted, and the next
+number beyond it refused; its least and greatest score are those of two points. Figures that stand in two places agree (figures.py);
+words and sentences are those of wording.py. The last line is `N passed, M failed`.
 """
 
 import fnmatch
@@ -24,6 +24,7 @@ import tempfile
 from pathlib import Path
 
 from figures import other_figures
+from wording import complaints
 
 ROOT = Path(__file__).resolve().parent.parent
 
@@ -232,6 +233,11 @@ def contradictions(_pages):
     return other_figures(lambda name: (ROOT / name).read_text(encoding="utf-8"))
 
 
+def wordings(pages):
+    """The words that pages shouldn't use, and sentences for users that are too long."""
+    return complaints({str(page.relative_to(ROOT)): text for page, text in pages.items()})
+
+
 def logics(text):
     """The logics of the toolchain that a text names."""
     return set(re.findall(r"\blogic ([0-9a-f]{16})\b", text))
@@ -258,7 +264,7 @@ def main():
         pages = all_pages()
         checks = (
             ("links that lead nowhere", broken_links), ("pages that no link leads to", unreached), ("questions", unanswered),
-            ("blocks", unnamed_blocks), ("figures", contradictions),
+            ("blocks", unnamed_blocks), ("figures", contradictions), ("wording", wordings),
         )  # fmt: skip
         by_looking = ((ROOT / "README.md", words, [], [*check(pages)]) for words, check in checks)
         at = ROOT / "docs/limits.md"
