@@ -2,7 +2,7 @@
 
 import math
 from array import array
-from collections.abc import Iterator, Mapping
+from collections.abc import Iterable, Iterator, Mapping
 from itertools import compress
 from typing import Any
 
@@ -122,7 +122,10 @@ def _listed(polygons: Any) -> Iterator[Any]:
     """The geometries, or GeoJSON, of a frame, a collection or anything that can be iterated."""
     if isinstance(polygons, Mapping):
         polygons = polygons["features"] if "features" in polygons else [polygons]
-    return iter(getattr(polygons, "geometry", polygons))
+    found = getattr(polygons, "geometry", polygons)
+    if not isinstance(found, Iterable):
+        raise TypeError(f"polygons are geometries, a frame or GeoJSON, and not {polygons!r:.50}")
+    return iter(found)
 
 
 def _parts(polygon: Any) -> Any:

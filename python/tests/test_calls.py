@@ -48,7 +48,7 @@ def test_lines(boxes: Rtfilter) -> None:
     assert first == Answers([], [], 5) and second is None and fourth == Answers([2, 5], [0, 0], 2)
     assert isinstance(third, QueryError) and (third.query, third.code, third.text) == ("find window 1", "Q4", "missing word")
     assert boxes.replies([]) == [] and boxes.replies(iter(["#"])) == [None]
-    for bad, error in (("find all", TypeError), ([b"find all"], TypeError), (["a\nb"], ValueError), (["\ud800"], ValueError)):
+    for bad, error in (("find all", TypeError), (5, TypeError), ([b"find all"], TypeError), (["a\nb"], ValueError), (["\ud800"], ValueError)):
         with pytest.raises(error):
             boxes.replies(bad)  # type: ignore[arg-type]
     with pytest.raises(TypeError):

@@ -135,10 +135,19 @@ def test_long_texts_go_both_ways(client: Client, boxes: Rtfilter) -> None:
     assert client.text(text) == boxes.text(text)
 
 
+@pytest.mark.parametrize("address", [5, None, ("localhost",), b"boxes.socket"])
+def test_no_address(address: Any) -> None:
+    for kind in (Client, aio.Client):
+        with pytest.raises(TypeError, match=r"^an address is the path of a socket or \(host, port\), and not "):
+            kind(address)
+
+
 def test_no_service(tmp_path: Path) -> None:
     with pytest.raises(FileNotFoundError) as raised:
         Client(tmp_path / "none")
     assert raised.value.filename == str(tmp_path / "none")
+    with pytest.raises(OSError, match="^AF_UNIX path too long$"):
+        Client(tmp_path / ("x" * 200))
     with socket.socket(socket.AF_UNIX) as stale:
         stale.bind(str(tmp_path / "stale"))
         with pytest.raises(ConnectionRefusedError):

@@ -168,7 +168,7 @@ def test_what_several_tables_have_not(three: Tables) -> None:
     for call in (three.levels, lambda: three.cost_of_find(All()), lambda: three.cost_of_count(All()), lambda: pickle.dumps(three)):
         with pytest.raises(TypeError):
             call()
-    for members, error in (([], ValueError), ([1], TypeError), ([Rtfilter([]), "boxes.csv"], TypeError)):
+    for members, error in (([], ValueError), ([1], TypeError), ([Rtfilter([]), "boxes.csv"], TypeError), (5, TypeError)):
         with pytest.raises(error):
             Tables(members)  # type: ignore[arg-type]
     assert Tables([Rtfilter([])]).bounds is None and Tables([Rtfilter([]), Rtfilter([])]).nearest(3, 0, 0) == []
