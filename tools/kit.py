@@ -65,8 +65,9 @@ def copy_crates(names, folder, top=ROOT, copy=shutil.copy2):
 
 
 def take_library(name, folder, top=ROOT):
-    """Gives a copied crate the library that was built of the original."""
-    link_folder(top / "crates" / name / "out/rlib", folder / "crates" / name / "out/rlib")
+    """Gives a copied crate the library that was built of the original, if one was."""
+    if (top / "crates" / name / "out/rlib").is_dir():
+        link_folder(top / "crates" / name / "out/rlib", folder / "crates" / name / "out/rlib")
 
 
 @functools.cache
