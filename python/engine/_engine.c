@@ -319,14 +319,26 @@ static bool put_number(const request *it, PyObject *number, PyObject *of, void *
     return true;
 }
 
+/* Whether it is one: a named tuple that is made by `tuple.__new__` holds anything. */
+static bool is_tuple(PyObject *it, PyObject *polygon)
+{
+    if (PyTuple_Check(it))
+        return true;
+    PyErr_Format(PyExc_TypeError, "vertices aren't a tuple of pairs (x, y): %R", polygon);
+    return false;
+}
+
 static bool put_vertices(request *it, PyObject *polygon)
 {
-    PyObject *pairs = PyTuple_GetItem(polygon, 0), *x, *y;
-    const Py_ssize_t count = pairs ? PyTuple_Size(pairs) : -1;
-    if (count >= 0 && (count < 3 || count > MOST_VERTICES))
+    PyObject *pairs = PyTuple_GetItem(polygon, 0), *pair, *x, *y;
+    if (!pairs || !is_tuple(pairs, polygon))
+        return false;
+    const Py_ssize_t count = PyTuple_Size(pairs);
+    if (count < 3 || count > MOST_VERTICES)
         raise_query(polygon, -1, "Q8", "vertex count");
     for (Py_ssize_t at = 0; at < count && !PyErr_Occurred(); at++)
-        if (PyArg_ParseTuple(PyTuple_GetItem(pairs, at), "OO;a vertex is a pair (x, y)", &x, &y) &&
+        if ((pair = PyTuple_GetItem(pairs, at)) && is_tuple(pair, polygon) &&
+            PyArg_ParseTuple(pair, "OO;a vertex is a pair (x, y)", &x, &y) &&
             put_number(it, x, polygon, &it->vertices[at].x, false))
             put_number(it, y, polygon, &it->vertices[at].y, false);
     it->query.vertices = (uint32_t)count;

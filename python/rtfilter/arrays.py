@@ -110,14 +110,15 @@ def first_beyond(columns: Columns, formats: Sequence[str]) -> tuple[int, int] | 
         if numpy.can_cast(column.dtype, format) or not len(column):
             continue
         least, most = limits_of(format)
-        if column.min() < least or column.max() > most:
+        # (numpy 1 compares a number of its own of 64 unsigned bits to a signed one in floats)
+        if int(column.min()) < least or int(column.max()) > most:
             found.append((int(numpy.argmax((column < least) | (column > most))), at))
     return min(found, default=None)
 
 
 def converted(columns: Columns, formats: Sequence[str]) -> Columns:
-    """Columns as contiguous arrays of these formats. Their numbers are in range."""
-    return [numpy.ascontiguousarray(column, format) for column, format in zip(columns, formats)]
+    """Columns as contiguous and aligned arrays of these formats. Their numbers are in range."""
+    return [numpy.require(column, format, ["C", "A"]) for column, format in zip(columns, formats)]
 
 
 class Queries:
@@ -186,8 +187,8 @@ def queries_of(windows: Any, bounds: Any, region: type, order: Order | None, fir
     if (windows is None) == (bounds is None):
         raise TypeError("give either windows or bounds=")
     members = MEMBERS.get(region)
-    if members is None:
-        raise TypeError(f"region is All, Window, Inside, Covers or Circle, and not {getattr(region, '__name__', region)!s:.200}")
+    if not members:  # (rows without numbers can't be counted)
+        raise TypeError(f"region is Window, Inside, Covers or Circle, and not {getattr(region, '__name__', region)!s:.200}")
     if bounds is None:
         columns = columns_of(windows, "windows", members)
     elif members is not SIDES:

@@ -70,7 +70,7 @@ class BulkCalls:
         """The places of many windows, from 0, and the ids of the boxes that each accepts, as two arrays.
 
         `windows` are rows of the numbers of a region, `bounds` in their place rows of min_x, min_y, max_x, max_y: an array, a
-        frame with columns of these names, or a list. `region` is any of the classes but Polygon.
+        frame with columns of these names, or a list. `region` is Window, Inside, Covers or Circle.
         """
         from . import arrays
 

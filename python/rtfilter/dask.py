@@ -196,6 +196,7 @@ class WholePart:
 
     def __init__(self, frame: Frame) -> None:
         self.frame = frame.sort_values("id", ignore_index=True)
+        self.ids = _ids_of(self.frame)
         layers = self.frame["layer"] if "layer" in self.frame else None
         self.table = Rtfilter.from_bounds(self.frame[[*BOUNDS]], layers=layers)
         self.bounds = self.table.bounds
@@ -217,6 +218,7 @@ class FloatPart:
 
     def __init__(self, frame: Frame) -> None:
         self.frame = frame.sort_values("id", ignore_index=True)
+        self.ids = _ids_of(self.frame)
         is_bare = GEOMETRY not in frame.columns
         self.tree = STRtree.from_bounds(self.frame[[*BOUNDS]].to_numpy("f8")) if is_bare else STRtree(self.frame)
         self.bounds = self.tree.bounds
@@ -270,6 +272,14 @@ def _stamp_of(file: str) -> tuple[int, int]:
     return found.st_size, found.st_mtime_ns
 
 
+def _ids_of(frame: Frame) -> NDArray[Any]:
+    """The ids of boxes. Raises TypeError where one isn't whole, and ValueError where one is out of range."""
+    ids = arrays.whole(numpy.asanyarray(frame["id"]), "id")
+    if arrays.first_beyond([ids], ["i8"]) is not None:
+        raise ValueError("id: a number is out of the range of 64 bits")
+    return arrays.converted([ids], ["i8"])[0]
+
+
 def _regions(region: type, order: Order | None, first: int | None, on: Layers | None, frame: Frame) -> Queries:
     return arrays.queries_of(frame, None, region, order, first, on)
 
@@ -311,7 +321,7 @@ def _found(part: Any, number: int, routed: list[tuple[Any, Rows]], has_columns: 
     queries, at = routed[number]
     places, rows, scores = part.found(queries)
     columns = _without_geometry(part.frame.iloc[rows]) if has_columns else None
-    return Found(at[places], part.frame["id"].to_numpy("i8")[rows], scores, columns)
+    return Found(at[places], part.ids[rows], scores, columns)
 
 
 def _counted(part: Any, number: int, routed: list[tuple[Any, Rows]]) -> tuple[Rows, NDArray[Any]]:

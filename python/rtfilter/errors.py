@@ -8,7 +8,7 @@ KINDS = {  # of a table's faults, as the library numbers them
     5: "minimum above maximum in {axis}",
     6: "repeated id",
 }
-OUT_OF_RANGE, FIELD_COUNT = 4, 2
+TOO_MANY, FIELD_COUNT, OUT_OF_RANGE, REPEATED = 1, 2, 4, 6
 SIDES = "; the order here is min_x, max_x, min_y, max_y; that of from_bounds and bounds= is min_x, min_y, max_x, max_y"
 
 FLOATS = ": scale and round floats, or use rtfilter.geometry.STRtree, which compares them"
@@ -45,8 +45,9 @@ class QueryError(RtfilterError, ValueError):
         self.query, self.place, self.code, self.text = query, place, code, text
 
     def __str__(self) -> str:
+        query = "" if self.query is None else f": {self.query!s:.200}"
         place = "" if self.place is None else f", at place {self.place}"
-        return f"{self.code} {self.text}: {self.query!s:.200}{place}" + (SIDES if self.code == "Q7" else "")
+        return f"{self.code} {self.text}{query}{place}" + (SIDES if self.code == "Q7" else "")
 
 
 class Disconnected(RtfilterError, ConnectionError):

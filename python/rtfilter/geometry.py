@@ -43,7 +43,7 @@ class STRtree:
         """A tree of rows (min_x, min_y, max_x, max_y) alone, for `query_bounds` and `query` without a predicate."""
         tree = cls.__new__(cls)
         tree.geometries = None
-        tree._boxes = FloatBoxes(rows_of(bounds, "bounds"))
+        tree._boxes = FloatBoxes(rows_of(numpy.array(bounds, "f8"), "bounds"))  # (a copy, which no caller changes)
         return tree
 
     def __reduce__(self) -> Any:
@@ -219,7 +219,9 @@ def _joined(kept: Any, other: Any, places: Places, others: Places, has_all: bool
         order = numpy.argsort(places, kind="stable")
         places, others = places[order], others[order]
     frame, rest = kept.take(places), other.drop(columns=other.geometry.name)
-    rest = rest.reset_index(names=f"index_{names[1]}").reindex(pandas.RangeIndex(len(rest)))
+    levels = rest.index.nlevels
+    index = f"index_{names[1]}" if levels == 1 else [f"index_{names[1]}{level}" for level in range(levels)]
+    rest = rest.reset_index(names=index).reindex(pandas.RangeIndex(len(rest)))
     rest = rest.reindex(others) if (others < 0).any() else rest.take(others)
     rest.index = frame.index
     shared = [it for it in rest if it in frame]

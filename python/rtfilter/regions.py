@@ -92,6 +92,10 @@ class Polygon(_OwnKind, NamedTuple("Polygon", [("vertices", tuple[tuple[int, int
         except (TypeError, ValueError):
             raise TypeError(f"vertices are pairs (x, y), and not {vertices!r:.50}") from None
 
+    @classmethod
+    def _make(cls, iterable: Iterable[Any]) -> Self:  # type: ignore[override]  # (which `_replace` calls too)
+        return cls(*iterable)
+
     def __str__(self) -> str:
         return " ".join([f"polygon {len(self.vertices)}", *(f"{index(x)} {index(y)}" for x, y in self.vertices)])
 

@@ -8,7 +8,7 @@ from typing import TYPE_CHECKING, Any, NoReturn, Self
 
 from . import _engine
 from .calls import BulkCalls, Closable
-from .errors import FIELD_COUNT, FLOATS, OUT_OF_RANGE, QueryError, TableError
+from .errors import FIELD_COUNT, FLOATS, OUT_OF_RANGE, REPEATED, TOO_MANY, QueryError, TableError
 from .regions import CLASSES
 from .replies import Reply, cut, joined, listed
 
@@ -79,18 +79,18 @@ class Rtfilter(_engine.Table, Closable, BulkCalls):
         sound = columns if beyond is None else [it[: beyond[0]] for it in columns]
         given = arrays.converted(sound, FORMATS)
         if beyond is not None:
-            cls._refuse(given, beyond[0] + 1, beyond[1] + 1, fanout, max_entries)
+            cls._refuse(given, TableError(OUT_OF_RANGE, beyond[0] + 1, beyond[1] + 1), fanout, max_entries)
         return cls._open_arrays(tuple([*given, None][:6]), fanout, max_entries)
 
     @classmethod
-    def _refuse(cls, before: Iterable[Any], record: int, field: int, fanout: int, max_entries: int) -> NoReturn:
-        """Raises the first fault of a table: that of the boxes before a record, or that a number of the record is out of range."""
+    def _refuse(cls, before: Iterable[Any], fault: TableError, fanout: int, max_entries: int) -> NoReturn:
+        """Raises the first fault of a table: that of the boxes before a record, or that of the record."""
         try:
             cls._open_arrays(tuple([*before, None][:6]), fanout, max_entries).close()
         except TableError as error:
-            if error.kind != 6:  # ids are compared once all records are read
+            if error.kind != REPEATED:  # ids are compared once all records are read
                 raise
-        raise TableError(OUT_OF_RANGE, record, field)
+        raise fault if fault.record <= max_entries else TableError(TOO_MANY, fault.record, 0)
 
     @classmethod
     def _open_rows(cls, rows: Iterable[Any], fanout: int, max_entries: int) -> Self:
@@ -100,12 +100,13 @@ class Rtfilter(_engine.Table, Closable, BulkCalls):
                 raise TypeError(f"row {record - 1}: {row!r:.50} isn't a row of {', '.join(FIELDS[:5])}")
             fields = tuple(row)
             if len(fields) not in (5, 6):
-                raise TableError(FIELD_COUNT, record, len(fields))
+                cls._refuse(columns, TableError(FIELD_COUNT, record, len(fields)), fanout, max_entries)
             for at, (column, number) in enumerate(zip(columns, fields if len(fields) == 6 else (*fields, 0))):
                 try:
                     column.append(number)
                 except OverflowError:
-                    cls._refuse((it[: record - 1] for it in columns), record, at + 1, fanout, max_entries)
+                    before = [it[: record - 1] for it in columns]
+                    cls._refuse(before, TableError(OUT_OF_RANGE, record, at + 1), fanout, max_entries)
                 except TypeError:
                     help = FLOATS if isinstance(number, float) else ""
                     raise TypeError(f"row {record - 1}: {FIELDS[at]} is {number!r}, and not a whole number{help}") from None

@@ -2,7 +2,7 @@
 
 from collections.abc import Callable, Iterable
 from itertools import chain
-from operator import itemgetter
+from operator import index, itemgetter
 from typing import TYPE_CHECKING, Any, NoReturn
 
 from .calls import BulkCalls, SingleCalls
@@ -144,6 +144,7 @@ def _ordered(
 
 def _by_distance(members: list[Member], x: int, y: int, first: int, find: Callable[[Any], Any]) -> list[Pair]:
     """The first answers by distance from a point. A table that is farther away than the last of them isn't queried."""
+    x, y = _own(x), _own(y)
     near = sorted(((_square(x, y, *bounds) if bounds else 0, at) for at, (_, bounds) in enumerate(members)))
     pairs: list[Pair] = []
     for distance, at in near:
@@ -152,6 +153,14 @@ def _by_distance(members: list[Member], x: int, y: int, first: int, find: Callab
         found = find(members[at][0])
         pairs = sorted(chain(pairs, found), key=itemgetter(1, 0))[:first] if pairs else found
     return pairs
+
+
+def _own(number: Any) -> Any:
+    """A whole number as one of Python, whose products don't overflow as those of numpy. What is none stays, for a table to refuse."""
+    try:
+        return index(number)
+    except TypeError:
+        return number
 
 
 def _square(x: int, y: int, min_x: int, min_y: int, max_x: int, max_y: int) -> int:
@@ -167,7 +176,8 @@ def _may_answer(region: Region, min_x: int, min_y: int, max_x: int, max_y: int) 
     if isinstance(region, Covers):
         return region[0] >= min_x and region[1] <= max_x and region[2] >= min_y and region[3] <= max_y
     if isinstance(region, Circle):
-        return _square(region.x, region.y, min_x, min_y, max_x, max_y) <= region.radius * region.radius
+        x, y, radius = map(_own, region)
+        return bool(_square(x, y, min_x, min_y, max_x, max_y) <= radius * radius)
     if isinstance(region, Polygon) and region.vertices:
         xs, ys = zip(*region.vertices)
         return bool(min(xs) <= max_x and max(xs) >= min_x and min(ys) <= max_y and max(ys) >= min_y)

@@ -95,6 +95,19 @@ def test_scores_of_65_bits() -> None:
     assert [it[1:] for it in listed(found)] == one.nearest(4, FAR, FAR) + one.nearest(4, 0, 0)
 
 
+def test_ids_are_never_wrapped() -> None:
+    for sides in ([0, 1, 0, 1], [0.5, 1, 0.5, 1]):
+        rows = [[7, *sides], [5, *sides]]
+        queries = dataframe.from_pandas(pandas.DataFrame([sides], columns=SIDES), npartitions=1)
+        for ids, kind in (([2**63 - 1, -(2**63)], "i8"), ([2**63 - 1, 5], "u8"), ([2**63 - 1, 5], object), ([2**63 - 1, 5], "Int64")):
+            boxes = pandas.DataFrame(rows, columns=["id", *SIDES]).assign(id=pandas.Series(ids, dtype=kind))
+            assert [it for _, it in listed(Boxes(dataframe.from_pandas(boxes, npartitions=1)).query(queries))] == sorted(ids)
+        for ids, kind, error in (([7, 2**63], "u8", ValueError), ([7, 2**63], object, ValueError), ([7, 5.5], "f8", TypeError), ([7, "5"], object, TypeError)):
+            boxes = pandas.DataFrame(rows, columns=["id", *SIDES]).assign(id=pandas.Series(ids, dtype=kind))
+            with pytest.raises(error):
+                Boxes(dataframe.from_pandas(boxes, npartitions=1))
+
+
 def test_join() -> None:
     chance = random.Random(5)
     boxes, queries = frame_of(chance, 150), queries_of(chance, 30)

@@ -8,6 +8,7 @@ from types import SimpleNamespace
 from typing import Any
 
 import numpy
+import pandas
 import pytest
 
 geopandas = pytest.importorskip("geopandas")
@@ -62,6 +63,13 @@ def test_decimals_are_compared_exactly(pool: int) -> None:
         assert numpy.array_equal(found, meeting(boxes, windows).reshape(2, -1))
         pairs += found.shape[1]
     assert pairs > 1000
+
+
+def test_bounds_that_their_caller_changes() -> None:
+    bounds = numpy.array([(0.0, 0.0, 1.5, 1.5), (5.0, 5.0, 6.0, 6.0)])
+    tree = STRtree.from_bounds(bounds)
+    bounds += 100
+    assert tree.query_bounds((1.2, 1.2, 1.3, 1.3)).tolist() == [0] and tree.bounds == (0, 0, 6, 6)
 
 
 def some_geometries(chance: random.Random, count: int) -> list[Any]:
@@ -184,9 +192,18 @@ def test_refused(call: Any, words: str) -> None:
 @pytest.mark.parametrize("predicate", ["intersects", "within", "contains"])
 def test_joins_are_those_of_geopandas(how: str, predicate: str) -> None:
     chance, pairs = random.Random(f"{how} {predicate}"), 0
-    for index in ([*range(40)], [f"row{it}" for it in range(40)], [it // 2 for it in range(40)]):
+    plain, levels = range(100, 130), pandas.MultiIndex.from_tuples([(it // 2, it % 2) for it in range(40)], names=["p", "q"])
+    indexes: list[tuple[Any, Any]] = [
+        ([*range(40)], plain),
+        ([f"row{it}" for it in range(40)], plain),
+        ([it // 2 for it in range(40)], pandas.Index(plain, name="own")),
+        (levels, plain),
+        ([*range(40)], levels[:30]),
+        (levels, levels[:30]),
+    ]
+    for index, other in indexes:
         left = geopandas.GeoDataFrame({"n": range(40), "a": 1.5}, geometry=some_geometries(chance, 40), index=index)
-        right = geopandas.GeoDataFrame({"n": range(30), "b": "x"}, geometry=some_geometries(chance, 30), index=range(100, 130))
+        right = geopandas.GeoDataFrame({"n": range(30), "b": "x"}, geometry=some_geometries(chance, 30), index=other)
         with warnings.catch_warnings():
             warnings.simplefilter("ignore")
             expected = geopandas.sjoin(left, right, how=how, predicate=predicate)

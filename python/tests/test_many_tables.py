@@ -117,6 +117,21 @@ def test_ties_whose_floats_differ() -> None:
                 assert many.find_each([(0, 0, 2**32 - 1)], region=Circle, first=1)[1].tolist() == [1]
 
 
+@pytest.mark.parametrize("kind", ["i4", "u4", "i8"])
+def test_numbers_of_numpy(kind: str) -> None:
+    """Their products would overflow."""
+    number = numpy.dtype(kind).type
+    rows = [(1, 0, 0, 0, 0), (2, FAR, FAR, FAR, FAR), (3, 70_000, 70_000, 0, 0)]
+    with Rtfilter(rows) as one, Tables([Rtfilter([it]) for it in rows]) as many:
+        for x, y, radius in ((0, 0, 70_000), (FAR, FAR, 65_536), (69_000, 1, 100_000), (FAR, 0, FAR)):
+            region = Circle(number(x), number(y), number(radius))
+            assert many.find(region) == one.find(region) and many.count(region) == one.count(region)
+            assert many.find(region, first=3, scores=True) == one.find(region, first=3, scores=True)
+            assert many.nearest(3, number(x), number(y)) == one.nearest(3, number(x), number(y))
+            near = Near(number(x), number(y))
+            assert many.find(All(), near, number(2)) == one.find(All(), near, number(2))
+
+
 @pytest.fixture
 def three() -> Iterator[Tables]:
     with Tables([Rtfilter([(at, at * 10, at * 10 + 5, 0, 5)]) for at in range(3)]) as found:

@@ -11,7 +11,7 @@ import pandas
 import pytest
 from conftest import PROGRAM
 
-from rtfilter import All, RtfilterError, Rtfilter, Smallest, TableError
+from rtfilter import All, RtfilterError, Rtfilter, Smallest, TableError, arrays
 
 ROWS = [(1, 0, 10, 0, 10), (2, 5, 15, 5, 15), (3, 20, 30, 0, 10), (4, -5, -1, -5, -1), (5, 12, 12, 12, 12)]
 NAMES = ["id", "min_x", "max_x", "min_y", "max_y"]
@@ -137,6 +137,26 @@ def test_faulty_rows(rows: list[Any], fault: tuple[int, int, int], as_array: boo
     assert (raised.value.kind, raised.value.record, raised.value.field) == fault
 
 
+@pytest.mark.parametrize(
+    "rows, most, fault",
+    [
+        ([(1, 5, 1, 0, 1), (2, 0, 1, 0)], 9, (5, 1, 2)),
+        ([(1, 0, 1, 0, 1), (2, 0, 1, 0)], 1, (1, 2, 0)),
+        ([(1, 0, 1, 0, 1), (1, 0, 1, 0, 1), (2, 0, 1, 0)], 9, (2, 3, 4)),
+        ([(1, 0, 1, 0, 1), (2, 0, 2**31, 0, 1)], 1, (1, 2, 0)),
+        ([(1, 0, 1, 0, 1), (2, 0, 2**31, 0, 1)], 2, (4, 2, 3)),
+        ([(1, 0, 1, 0, 1)] * 2 + [(2, 0, 2**31, 0, 1)], 1, (1, 2, 0)),
+    ],
+)
+def test_the_first_fault(rows: list[Any], most: int, fault: tuple[int, int, int]) -> None:
+    """The one that a file of these rows has, but for ids, which are compared last."""
+    tables = [rows] if len({*map(len, rows)}) > 1 else [rows, numpy.array(rows, object), numpy.array(rows)]
+    for table in tables:
+        with pytest.raises(TableError) as raised:
+            Rtfilter(table, max_entries=most)
+        assert (raised.value.kind, raised.value.record, raised.value.field) == fault
+
+
 def test_rows_that_are_not_whole() -> None:
     """An error has the row and the number, of a list, of an array of objects and of a column."""
     rows = [(1, 2, 3, 4), (1, 2, 16.5, 4)]
@@ -147,12 +167,27 @@ def test_rows_that_are_not_whole() -> None:
         Rtfilter.from_bounds([(1, 2, 3, 4)] * 2, ids=numpy.array([5, "a"], object))
 
 
+def test_arrays_are_aligned() -> None:
+    """The library wants that of its callers."""
+    shifted = numpy.frombuffer(b"x" + numpy.arange(10).tobytes(), "i8", offset=1)
+    (column,) = arrays.converted([shifted], ["i8"])
+    assert not shifted.flags.aligned and column.flags.aligned and column.tolist() == [*range(10)]
+    assert arrays.converted([column], ["i8"])[0] is column
+    assert Rtfilter.from_bounds([(0, 0, 1, 1)] * 10, ids=shifted).find(All()) == [*range(10)]
+
+
 def test_numbers_are_never_wrapped() -> None:
     for kind, number in (("i8", 2**32), ("u4", 2**31), ("u8", 2**63), ("i8", -(2**31) - 1)):
         with pytest.raises(TableError, match="out of range"):
             Rtfilter(numpy.array([(1, number, number, 0, 1)], kind))
     with pytest.raises(TableError, match="out of range"):
         Rtfilter.from_bounds(numpy.array([(0, 0, 2**32 + 1, 1)]))
+    for id in (2**63, 2**63 + 1024, 2**64 - 1):  # the first two are 2**63 - 1 in floats
+        for ids in (numpy.array([7, id], "u8"), numpy.array([7, id], object)):
+            with pytest.raises(TableError, match="^table record 2: field 1 is out of range$"):
+                Rtfilter.from_bounds([(0, 0, 1, 1)] * 2, ids=ids)
+        with pytest.raises(TableError, match="^table record 2: field 1 is out of range$"):
+            Rtfilter(numpy.array([(7, 0, 1, 0, 1), (id, 0, 1, 0, 1)], "u8"))
 
 
 def test_fields() -> None:

@@ -51,6 +51,12 @@ def test_from_bounds(region: Any) -> None:
     assert region.from_bounds(iter([0, 5, 10, 15]))._asdict() == {"min_x": 0, "max_x": 10, "min_y": 5, "max_y": 15}
 
 
+def test_vertices_are_kept_as_pairs() -> None:
+    listed = [[*it] for it in CORNERS]
+    for value in (Polygon(listed), Polygon._make([listed]), Polygon([(0, 0)])._replace(vertices=listed)):  # type: ignore
+        assert value == Polygon(CORNERS) and value.vertices == CORNERS
+
+
 @pytest.mark.parametrize("wrong", [5, [1], [(1, 2, 3)], [(0, 0), 5]])
 def test_other_values(wrong: Any) -> None:
     for make, words in ((Polygon, "vertices are pairs"), (Window.from_bounds, "bounds are min_x, min_y, max_x and max_y")):
@@ -62,6 +68,10 @@ def test_words_want_whole_numbers() -> None:
     for value in (Window(0, 0.5, 0, 1), Circle(0, 0, 1.0), Near("1", 2), Polygon([(0, 0), (1, 0), (0, 1.5)])):  # type: ignore
         with pytest.raises(TypeError):
             str(value)
+
+
+def test_an_error_without_a_query() -> None:
+    assert str(QueryError(None, None, "Q6", "out of range")) == "Q6 out of range"
 
 
 @pytest.mark.parametrize("error", [TableError(5, 3, 4), QueryError(Window(1, 0, 0, 1), 7, "Q7", "minimum above maximum")])

@@ -1,8 +1,10 @@
 """The boxes of a table: what finds them, and where they lie, with their layers and names."""
 
+import codecs
 import csv
+import os
 from collections.abc import Sequence
-from typing import Any, NamedTuple
+from typing import Any, BinaryIO, NamedTuple
 
 import numpy
 import pandas
@@ -74,11 +76,22 @@ def read(files: Files, has_layers: bool) -> Any:
     # (where some box has another layer, some record has a sixth field, as pandas needs it of a column)
     names = FIELDS if has_layers else FIELDS[:5]
     kinds = {name: "f8" if name == "layer" else "i8" for name in names}
-    frame = pandas.read_csv(
-        files.table, header=None, skiprows=int(files.has_header), names=names, usecols=range(len(names)), dtype=kinds,
-        encoding_errors="replace",
-    )  # fmt: skip
+    with open(files.table, "rb") as file:
+        find_first_record(file)
+        frame = pandas.read_csv(
+            file, header=None, skiprows=int(files.has_header), names=names, usecols=range(len(names)), dtype=kinds,
+            encoding_errors="replace",
+        )  # fmt: skip
     return frame.assign(layer=frame["layer"].fillna(0).astype("i8") if has_layers else 0)
+
+
+def find_first_record(file: BinaryIO) -> None:
+    """Moves behind a byte order mark and blank lines, of which pandas would take one for the header."""
+    if file.read(len(codecs.BOM_UTF8)) != codecs.BOM_UTF8:
+        file.seek(0)
+    while (byte := file.read(1)) in (b"\r", b"\n"):
+        pass
+    file.seek(-len(byte), os.SEEK_CUR)
 
 
 def names_of(file: str | None) -> dict[int, str]:

@@ -128,8 +128,10 @@ class Tables(unittest.TestCase):
         most, least = 2**63 - 1, -(2**63)
         boxes = {most: [1, 2, 3, 4, 0], least: [-5, 6, -7, 8, 63], 0: [9, 9, 9, 9, 2], 7: [-2, 0, 0, 0, 0]}
         records = ["id,a,b,c,größe", f'{most},"1",2,+3,004', "", f"{least},-5,6,-7,8,63", "0,9,9,9,9,2", '"7",-2,0,0,0']
-        for encoding, mark in (("utf-8", b"\xef\xbb\xbf"), ("latin-1", b"")):
-            table.write_bytes(mark + "\r\n".join(records).encode(encoding))
+        for encoding, begin, end in (
+            ("utf-8", b"\xef\xbb\xbf", "\r\n"), ("latin-1", b"", "\r\n"), ("utf-8", b"\xef\xbb\xbf\r\r\n\n", "\r"), ("latin-1", b"\r\r", "\n"),
+        ):  # fmt: skip
+            table.write_bytes(begin + end.join(records).encode(encoding))
             self.check_shown(table, boxes)
 
     def check_shown(self, table: Path, boxes: dict[int, list[int]]) -> None:
