@@ -980,6 +980,16 @@ static bool is_part(const Polygons *self, int64_t part)
     return false;
 }
 
+/* holds(part, x, y): in less time than an array of one point. */
+static PyObject *polygons_holds(Polygons *self, PyObject *args)
+{
+    long long part;
+    int x, y;
+    if (!PyArg_ParseTuple(args, "Lii", &part, &x, &y) || !is_part(self, part))
+        return NULL;
+    return PyBool_FromLong(holds(self, part, x, y));
+}
+
 /* holds_each(parts, points): a byte for each pair of a part, in 64 bits, and a point, as x and y of 32 bits. */
 static PyObject *polygons_holds_each(Polygons *self, PyObject *args)
 {
@@ -1039,6 +1049,7 @@ static PyType_Spec table_spec = {"rtfilter._engine.Table", sizeof(Table), 0,
                                  Py_TPFLAGS_DEFAULT | Py_TPFLAGS_BASETYPE | Py_TPFLAGS_DISALLOW_INSTANTIATION, table_slots};
 
 static PyMethodDef polygons_methods[] = {
+    {"holds", CALL(polygons_holds), METH_VARARGS, NULL},
     {"holds_each", CALL(polygons_holds_each), METH_VARARGS, NULL},
     {0},
 };

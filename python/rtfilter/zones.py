@@ -1,9 +1,7 @@
 """Which polygons hold a point, exactly."""
 
 import math
-from array import array
 from collections.abc import Iterable, Iterator, Mapping
-from itertools import compress
 from typing import Any
 
 import numpy
@@ -64,8 +62,8 @@ class Zones:
         """The places of the polygons that hold a point, the least first."""
         whole_x, whole_y = self._whole_number(x), self._whole_number(y)
         parts = self._table.find(Covers(whole_x, whole_x, whole_y, whole_y))
-        held = self._polygons.holds_each(array("q", parts), array("i", [whole_x, whole_y]) * len(parts))
-        return [*dict.fromkeys(int(self._zones[it]) for it in compress(parts, held))]
+        found = (int(self._zones[it]) for it in parts if self._polygons.holds(it, whole_x, whole_y))
+        return [*dict.fromkeys(found)]
 
     def holding_each(self, points: Any) -> tuple[NDArray[Any], NDArray[Any]]:
         """The places of many points, rows of x and y, and of the polygons that hold each of them, as two arrays."""

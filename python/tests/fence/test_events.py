@@ -234,11 +234,11 @@ def test_reads_of_any_length(size: int, zones: Path, monkeypatch: pytest.MonkeyP
 
 
 def test_processor_time() -> None:
-    """Of a position, in the best of a few runs: on a busy machine others take a part of the processor from one."""
+    """Of a position, in the best of a few runs, however long they take by the clock: others use the processor too."""
     words = [sys.executable, "-B", ROOT / "bench/tools.py", "none", "--only", "fence", "--rounds", "1"]
     found = []
     while not found or min(found) >= MOST_MICROSECONDS and len(found) < 5:
-        done = subprocess.run([*map(str, words)], env=environment(), capture_output=True, text=True, check=True, timeout=LONGEST)
+        done = subprocess.run([*map(str, words)], env=environment(), capture_output=True, text=True, check=True)
         (microseconds,) = re.findall(r"^\| fence: a position, .* \| ([0-9.]+) us \|$", done.stdout, re.MULTILINE)
         found.append(float(microseconds))
     assert min(found) < MOST_MICROSECONDS, found
