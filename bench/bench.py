@@ -1,23 +1,23 @@
 #!/usr/bin/env python3
-"""Measures a built program beside index libraries behind the same text, and draws what it found.
+"""Measures a built program and index libraries behind the same text, and draws the results.
 
 usage: bench/bench.py PROGRAM [--only PART].. [--library ARCHIVE]
 
-What bench/peers holds is compiled into build/peers with g++: Boost.Geometry, GEOS, libspatialindex, SQLite's R*Tree,
-and a scan without an index. Debian's packages for them are libboost-dev, libgeos++-dev, libspatialindex-dev and
-libsqlite3-dev; a program that isn't there is skipped and named, and so are instructions without valgrind. Each gives rtfilter's answers, byte for byte, or this fails. The parts:
+bench/peers is compiled into build/peers with g++: Boost.Geometry, GEOS, libspatialindex, SQLite's R*Tree, and a scan without an index.
+Debian's packages for them are libboost-dev, libgeos++-dev, libspatialindex-dev and libsqlite3-dev. A program whose package is missing is
+skipped and named, and so are instructions without valgrind. If a program doesn't give rtfilter's answers, byte for byte, the run fails.
+The parts:
 
 - growth: loads, memory and lines over the number of boxes
 - lines: every verb, region, order and limit
-- tables: boxes that lie otherwise, and what of that makes searches slow
-- ids: what the order of ids does to a load
+- tables: other distributions of boxes, those that make searches slow among them
+- ids: loads by the order of ids
 - instructions: of a record and of lines, by valgrind
-- elsewhere: few queries over a big table, and boxes that change, beside SQLite's
-- library: librtfilter, the ARCHIVE or build/librtfilter.a, beside the libraries of the others in one process
+- elsewhere: few queries over a big table, and boxes that change, compared with SQLite
+- library: librtfilter, the ARCHIVE or build/librtfilter.a, and the libraries of the others in one process
 
-Time is that of the processor, but for threads that of the wall. All of it takes some minutes on four cores, wants
-nothing else to run, and is no part of the gate. The figures are written into build/bench.json, from which
-bench/report.py makes tables and pictures.
+Times are processor time, for threads wall time. All parts take some minutes on four cores and need an otherwise idle machine; they are no
+part of the gate. The figures are written into build/bench.json, from which bench/report.py makes tables and pictures.
 """
 
 import argparse
@@ -163,9 +163,9 @@ ITS_OWN_MACHINE = {"library"}  # parts that have in their figures what they were
 
 def main():
     parser = argparse.ArgumentParser(description=__doc__, formatter_class=argparse.RawDescriptionHelpFormatter)
-    parser.add_argument("program")
-    parser.add_argument("--only", action="append", choices=PARTS)
-    parser.add_argument("--library", default=ROOT / "build/librtfilter.a", metavar="ARCHIVE")
+    parser.add_argument("program", metavar="PROGRAM", help="the built program")
+    parser.add_argument("--only", action="append", choices=PARTS, metavar="PART", help="measure this part alone; may be repeated (default all)")
+    parser.add_argument("--library", default=ROOT / "build/librtfilter.a", metavar="ARCHIVE", help="the library (default build/librtfilter.a)")
     args = parser.parse_args()
     found = json.loads(RESULTS.read_text()) if args.only and RESULTS.exists() else {}
     made_on = machine()

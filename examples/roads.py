@@ -12,7 +12,7 @@ import json
 import sys
 from collections.abc import Iterator
 from itertools import islice
-from typing import Any, NamedTuple
+from typing import Any
 
 import numpy
 from pyproj import Geod, Transformer
@@ -23,20 +23,7 @@ from rtfilter import Circle, Rtfilter
 
 DEGREES = "EPSG:4326"
 AT_ONCE = 1000  # records
-COLUMNS = "rank", "line", "name", "longitude", "latitude", "metres"
-
-
-class Near(NamedTuple):
-    """A line near a position: the position's place, the line's rank, from 1, its feature's id and name, its nearest point in degrees,
-    and how far that is in metres."""
-
-    place: int
-    rank: int
-    line: Any
-    name: str
-    longitude: float
-    latitude: float
-    metres: float
+COLUMNS = "nearest_rank", "nearest_line", "nearest_name", "nearest_longitude", "nearest_latitude", "nearest_metres"
 
 
 class Lines:
@@ -53,8 +40,8 @@ class Lines:
         bounds = numpy.array([line.bounds for line in self._lines]).reshape(-1, 4)
         self._boxes = Rtfilter.from_bounds(numpy.hstack([whole(numpy.floor(bounds[:, :2])), whole(numpy.ceil(bounds[:, 2:]))]))
 
-    def nearest_each(self, positions: list[tuple[float, float]], k: int) -> Iterator[Near]:
-        """For each position, in degrees, the k lines nearest to it in the plane, the nearest first."""
+    def nearest_each(self, positions: list[tuple[float, float]], k: int) -> Iterator[tuple[int, list[str]]]:
+        """For each position, in degrees, its place and the columns of the k lines nearest to it in the plane, the nearest first."""
         longitudes, latitudes = numpy.array(positions).T
         xy = numpy.column_stack(self._plane.transform(longitudes, latitudes))
         centres = whole(numpy.rint(xy))
@@ -72,8 +59,8 @@ class Lines:
         feet = [nearest_points(self._lines[line], points[place])[0] for place, line in zip(places, ids)]
         found = self._plane.transform([it.x for it in feet], [it.y for it in feet], direction="INVERSE")
         metres = self._earth.inv(longitudes[places], latitudes[places], *found)[2]
-        for place, rank, line, *where in zip(places, ranks, ids, *found, metres):
-            yield Near(place, rank, self._ids[line], self._names[line], *where)
+        for place, rank, line, x, y, far in zip(places, ranks, ids, *found, metres):
+            yield place, [str(rank), str(self._ids[line]), self._names[line], f"{x:.7f}", f"{y:.7f}", f"{far:.2f}"]
 
     def _distances(self, points: list[Point], places: Any, ids: Any) -> Any:
         return numpy.array([self._lines[line].distance(points[place]) for place, line in zip(places, ids)], "f8")
@@ -89,10 +76,16 @@ def whole(numbers: Any) -> Any:
 def rows(records: Iterator[list[str]], columns: tuple[int, int], lines: Lines, k: int) -> Iterator[list[str]]:
     """Each record, once for each of the lines nearest to its position."""
     while batch := list(islice(records, AT_ONCE)):
-        positions = [(float(record[columns[0]]), float(record[columns[1]])) for record in batch]
-        for it in lines.nearest_each(positions, k):
-            where = f"{it.longitude:.7f}", f"{it.latitude:.7f}", f"{it.metres:.2f}"
-            yield [*batch[it.place], str(it.rank), str(it.line), it.name, *where]
+        positions = [(number(record[columns[0]]), number(record[columns[1]])) for record in batch]
+        for place, found in lines.nearest_each(positions, k):
+            yield [*batch[place], *found]
+
+
+def number(word: str) -> float:
+    try:
+        return float(word)
+    except ValueError:
+        raise ValueError(f"{word!r} is no number") from None
 
 
 def main() -> None:
@@ -105,12 +98,22 @@ def main() -> None:
     args = parser.parse_args()
     if args.nearest < 1:
         parser.error("argument --nearest: 1 or more")
+    try:
+        write(args)
+    except (OSError, ValueError) as error:
+        sys.exit(f"roads.py: {error}")
+
+
+def write(args: argparse.Namespace) -> None:
     with open(args.positions, encoding="utf-8", newline="") as file:
         records = csv.reader(file)
-        header = next(records)
-        x, y = (header.index(it) for it in args.columns.split(","))
+        header: list[str] = next(records, [])
+        columns = args.columns.split(",")
+        if len(columns) != 2 or not {*columns} <= {*header}:
+            raise ValueError(f"{args.positions}: it has no columns {args.columns}: give --columns X,Y")
         writer = csv.writer(sys.stdout, lineterminator="\n")
-        writer.writerow([*header, *(f"nearest_{it}" for it in COLUMNS)])
+        writer.writerow([*header, *COLUMNS])
+        x, y = map(header.index, columns)
         writer.writerows(rows(filter(None, records), (x, y), Lines(args.lines, args.crs), args.nearest))
 
 

@@ -38,15 +38,16 @@ SOURCES = [
     "service/rtfilter.service", "service/rtfilter.socket", "python/rtfilter", "python/engine", "python/setup.py", "python/pyproject.toml", "python/README.md",
     *(f"examples/{name}" for name in ("data", "languages", "library", "roads.py")),
 ]
-RELEASE = re.compile(r"^## (\S+), (\d{4}-\d\d-\d\d)\n\n((?:- .*\n|  .*\n)+)", re.MULTILINE)
+RELEASE = re.compile(r"^## (\S+), (\d{4}-\d\d-\d\d)\n(.*?)(?=^## |\Z)", re.MULTILINE | re.DOTALL)
+CHANGE = re.compile(r"^- (.*(?:\n  .*)*)", re.MULTILINE)
 
 
 def releases() -> list[tuple[str, datetime.datetime, list[str]]]:
     """The versions in CHANGELOG.md, the newest first: each with its date and its changes."""
     found = []
-    for version, date, changes in RELEASE.findall((ROOT / "CHANGELOG.md").read_text(encoding="utf-8")):
+    for version, date, text in RELEASE.findall((ROOT / "CHANGELOG.md").read_text(encoding="utf-8")):
         midnight = datetime.datetime.fromisoformat(date).replace(tzinfo=datetime.UTC)
-        found.append((version, midnight, [" ".join(it.split()) for it in changes[2:].split("\n- ")]))
+        found.append((version, midnight, [" ".join(it.split()).rstrip(":") for it in CHANGE.findall(text)]))
     return found
 
 

@@ -14,6 +14,13 @@ from typing import Any
 FIRST_GIVEN = 3  # the first descriptor that systemd passes
 BACKLOG = 4096  # as many as Linux lets wait, by default
 PATIENCE = 5.0  # seconds that another process may keep a folder locked
+REASONS = {  # why a path can't be listened on, and what to do
+    errno.ENOENT: "its folder doesn't exist: make it, or choose another path",
+    errno.EACCES: "this user may make no socket in its folder: choose another path",
+    errno.EADDRINUSE: "another service listens there: choose another path",
+    errno.EAGAIN: "another process keeps its folder locked: end that, or choose another path",
+}
+NO_SOCKET = "it is no socket, and isn't replaced: choose another path"
 
 
 @contextlib.contextmanager
@@ -26,11 +33,6 @@ def unix_listener(path: str, mode: int) -> Iterator[socket.socket]:
             mask = os.umask(0o777 & ~mode)
             try:
                 listener.bind(path)
-            except OSError as error:
-                if error.errno == errno.EADDRINUSE and not stat.S_ISSOCK(os.lstat(path).st_mode):
-                    raise FileExistsError(f"--unix {path}: it is no socket, and isn't replaced: choose another path") from None
-                error.filename = path
-                raise
             finally:
                 os.umask(mask)
             listener.listen(BACKLOG)
@@ -48,10 +50,10 @@ def explained(path: str) -> Iterator[None]:
     """Has errors of a path say which option it is of, and what to do."""
     try:
         yield
-    except FileNotFoundError:
-        raise FileNotFoundError(f"--unix {path}: its folder doesn't exist: make it, or choose another path") from None
-    except PermissionError:
-        raise PermissionError(f"--unix {path}: this user may make no socket in its folder: choose another path") from None
+    except OSError as error:
+        is_other = error.errno == errno.EADDRINUSE and not stat.S_ISSOCK(os.lstat(path).st_mode)
+        why = NO_SOCKET if is_other else REASONS.get(error.errno or 0, error.strerror or str(error))
+        raise OSError(f"--unix {path}: {why}") from None
 
 
 @contextlib.contextmanager
@@ -64,9 +66,8 @@ def locked(path: str) -> Iterator[None]:
             try:
                 fcntl.flock(folder, fcntl.LOCK_EX | fcntl.LOCK_NB)
                 break
-            except BlockingIOError as error:  # every user that may read the folder may lock it
+            except BlockingIOError:  # every user that may read the folder may lock it
                 if time.monotonic() > until:
-                    error.filename = path
                     raise
                 time.sleep(0.01)
         yield
@@ -88,9 +89,8 @@ def tcp_listener(option: str, host: str, port: int) -> socket.socket:
     try:
         return socket.create_server((host, port), family=family, backlog=BACKLOG)
     except OSError as error:
-        if error.errno != errno.EADDRINUSE:
-            raise
-        raise OSError(f"{option} {name_of((host, port))}: the port is in use: choose another port") from None
+        why = "the port is in use: choose another port" if error.errno == errno.EADDRINUSE else error.strerror
+        raise OSError(f"{option} {name_of((host, port))}: {why}") from None
 
 
 def given_listeners() -> list[socket.socket]:

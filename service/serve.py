@@ -6,25 +6,24 @@ The table is exchanged for what its file then holds on SIGHUP. docs/service.md h
 
 import signal
 
-signal.pthread_sigmask(signal.SIG_BLOCK, [signal.SIGHUP])  # it would end the process, until the service handles it
+signal.pthread_sigmask(signal.SIG_BLOCK, [signal.SIGHUP, signal.SIGINT])  # they would end the process, until the service handles them
 
 import argparse
 import asyncio
 import contextlib
 import os
 import resource
-import selectors
 import shutil
 import stat
 import sys
 from collections.abc import Callable, Sequence
 from functools import partial
 from pathlib import Path
-from typing import Any
+from typing import Any, NoReturn
 
 import prefork
 from listening import given_listeners, name_of, tcp_listener, unix_listener
-from service import NO_SERVICE, SIGNALS, Service, log
+from service import NO_SERVICE, SIGNALS, Service, log, text_of
 
 VERSION = "0.4.0"
 LOOPBACK = "127.0.0.1"
@@ -51,11 +50,9 @@ def main(words: Sequence[str]) -> int:
             if health_listener:
                 log(f"health on {name_of(health_listener.getsockname())}")
             start = partial(prefork.start, [args.program, *args.options, "--", args.table], library)
-            polling = partial(asyncio.SelectorEventLoop, selectors.PollSelector())  # epoll can lack a descriptor for one more
-            runner = stack.enter_context(asyncio.Runner(loop_factory=polling))
-            return runner.run(Service(args, start, listeners).run(health_listener))
+            return asyncio.run(Service(args, start, listeners).run(health_listener))
     except OSError as error:
-        log(f"rtfilter-serve: {error}")
+        log(f"rtfilter-serve: {text_of(error)}")
     return NO_SERVICE
 
 
@@ -88,8 +85,15 @@ def prepare() -> None:
     resource.setrlimit(resource.RLIMIT_NOFILE, (most, most))
 
 
+class Parser(argparse.ArgumentParser):
+    """A command line. What is wrong with one is a message in one line."""
+
+    def error(self, message: str) -> NoReturn:
+        self.exit(2, f"{self.prog}: {message}; {self.prog} --help lists the options\n")
+
+
 def parser_of_words() -> argparse.ArgumentParser:
-    parser = argparse.ArgumentParser(prog="rtfilter-serve", description="Answers rtfilter's query lines over sockets.")
+    parser = Parser(prog="rtfilter-serve", description="Answers rtfilter's query lines over sockets.")
     add, seconds, octal = parser.add_argument, within(float, 0, LONGEST), partial(int, base=8)
     add("table", metavar="TABLE", help="CSV file of the boxes")
     add("--unix", metavar="PATH", action="append", default=[], help="Unix socket to listen on, replaced if nobody listens on it; may be repeated")

@@ -63,6 +63,11 @@ def reason(path: str) -> str:
     return ""
 
 
+def text_of(error: OSError) -> str:
+    """An error without its number."""
+    return f"{error.filename}: {error.strerror}" if error.filename else error.strerror or str(error)
+
+
 def send_line(connection: socket.socket, text: str) -> None:
     """Sends a line to a client, if that needs no wait. No reply begins so."""
     with contextlib.suppress(OSError):
@@ -192,7 +197,7 @@ class Service:
         try:
             await self._load("ready")
         except OSError as error:
-            return log(str(error))
+            return log(text_of(error))
         while True:
             await self._wait_until(lambda: self._table is None or self._is_reload_requested and len(self._tables) == 1)
             if self._table is None:
@@ -203,7 +208,7 @@ class Service:
             try:
                 await self._load("ready again")
             except OSError as error:
-                log(f"the new table isn't taken, {'the old one stays' if self._table else 'there is none'}: {error}")
+                log(f"the new table isn't taken, {'the old one stays' if self._table else 'there is none'}: {text_of(error)}")
                 notify("READY=1")
 
     async def _load(self, what: str) -> None:

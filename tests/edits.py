@@ -73,7 +73,7 @@ EDITS = {
 PLANTS = [
     (
         "it never looks",
-        "    lines, function = output.splitlines(), edit.function\n",
+        "    function = edit.function\n",
         '    return "any"\n',
         ["same_is_nothing", "one_more_the_other_way"],
     ),
@@ -97,20 +97,20 @@ PLANTS = [
     ),
     (
         "any end but a proof is a refusal",
-        'kind in (RT.REFUSED, RT.AT_LIMIT) and "`" in text',
-        "kind != RT.MISSED",
+        "is_refused, text = refusal(edit, status, output)",
+        'is_refused, text = status != 0, "refused `anyhow`"',
         ["same_is_nothing", "same_not_compiled", "same_not_there"],
     ),
     (
         "a proof is a refusal",
-        'kind in (RT.REFUSED, RT.AT_LIMIT) and "`" in text',
-        "kind != RT.BAD",
+        'return False, "NOT REFUSED: ',
+        'return True, "refused `NOT`: ',
         ["same_is_nothing", "same_without_an_effect"],
     ),
     (
         "the last edit of a crate is left out",
-        "(kit.ROOT / \"crates\" / name / \"edits\").glob(\"*.edit\"))",
-        "(kit.ROOT / \"crates\" / name / \"edits\").glob(\"*.edit\"))[:-1]",
+        '(self.folder / "edits").glob("*.edit"))]',
+        '(self.folder / "edits").glob("*.edit"))[:-1]]',
         ["one_more_is_two_more", "same_without_an_effect"],
     ),
 ]  # fmt: skip

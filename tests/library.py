@@ -48,6 +48,9 @@ INSTRUCTIONS = {  # of a query in C, by its kind (tests/library/queries.c), how 
     ("all near", 10, 10): 10162,
 }
 MORE = 0.1  # so much more, or less, is refused
+IMPORTS = {  # the functions of the C library that it calls
+    "__errno_location", "close", "free", "fstat", "malloc", "memcpy", "memmove", "memset", "mmap", "mremap", "munmap", "open", "read", "realloc",
+}  # fmt: skip
 
 OK, FAULTY_LINE, BAD_TABLE, FULL, NO_MEMORY, BAD_QUERY = 0, 1, 3, 5, 6, 7
 FAULTS = [  # kinds of a table's faults, in words of the program
@@ -331,6 +334,9 @@ class Checks:
         same("TEXTREL" in about, False)
         if not self.libraries:
             same(re.findall(r"NEEDED.*\[(.*)\]", about), ["libc.so.6"])
+            # (none that prints, ends the process, handles a signal or starts a thread, as docs/library.md says)
+            imported = {line.split()[-1].partition("@")[0] for line in run("nm", "-D", "--undefined-only", library).splitlines() if " U " in line}
+            same(imported - IMPORTS, set())
 
     def check_version(self):
         self.library.rtfilter_version.restype = ctypes.c_char_p

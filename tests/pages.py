@@ -5,12 +5,13 @@ usage: tests/pages.py PROGRAM
 
 In README.md, the pages of docs/ and the manual page a console example is a command after `$ `, which may go on over lines, and
 what it prints. It is run in a folder with the files of examples/data/. A block that names a tool behind `console` is run by the
-tests of that tool. A row of a table with the columns `line`
-and `reply` is a run with that line alone over boxes.csv, or over the table that the head of the column names, perhaps with
-options in front of it. The logic that pages say all is proved with is that of `rt version`, where `rt` is there. Each link of a
-page leads to a file of the repository, and to a heading of it; each page of docs/ is reached from README.md by links; each
-question of questions.md has an answer under a heading that is there; each fenced block has a row of blocks.md, which names the
-test that runs it or says why none does. Each limit of docs/limits.md is accepted, and the next number beyond it refused. The last line is `N passed, M failed`.
+tests of that tool. A row of a table with the columns `line` and `reply` is a run with that line alone over boxes.csv, or over the
+table that the head of the column names, perhaps with options in front of it. The logic that pages say all is proved with is that
+of `rt version`, if `rt` is there. Each link of a page leads to a file of the repository, and to a heading of it; each page of docs/
+is reached from README.md by links; each question of questions.md has an answer under a heading that is there; each fenced block has
+a row of blocks.md, which names the test that runs it or says why none does. Each limit of docs/limits.md is accepted, and the next
+number beyond it refused; its least and greatest score are those of two points. Figures that stand in two places agree (figures.py);
+words and sentences are those of wording.py. The last line is `N passed, M failed`.
 """
 
 import fnmatch
@@ -21,6 +22,9 @@ import subprocess
 import sys
 import tempfile
 from pathlib import Path
+
+from figures import other_figures
+from wording import complaints
 
 ROOT = Path(__file__).resolve().parent.parent
 
@@ -113,6 +117,7 @@ AT_LIMITS = [  # a limit by its name, and a command for a number, which prints s
     ("`first K`, `nearest K`", lambda number: error_of(f"find all first {number}")),
     ("`first K`, `nearest K`", lambda number: error_of(f"nearest {number} 0 0")),
     ("fanout", lambda number: f"rtfilter --fanout {number} boxes.csv /dev/null"),
+    ("fields of a CSV record", lambda number: f"echo {','.join('0' * number)} | rtfilter /dev/stdin /dev/null"),
 ]
 GREATEST = [  # of those that are named by their greatest number alone
     ("boxes in a table", lambda number: f"rtfilter --max-entries {number} boxes.csv /dev/null"),
@@ -128,6 +133,14 @@ def limits(text):
     for name, command in GREATEST:
         greatest = limit(text, name)[0]
         yield from ((command(number), number <= greatest) for number in (greatest, greatest + 1))
+
+
+def greatest_scores(text):
+    """Commands that print the least and the greatest score of docs/limits.md, each with what it is to print."""
+    low, high = limit(text, "coordinate")
+    distance = "echo '1,{0},{0},{0},{0}' > far.csv; echo 'nearest 1 {1} {1}' | rtfilter far.csv"
+    for at, score in zip((low, high), limit(text, "score")):
+        yield distance.format(low, at), f"1 {score}\nok 1 1\n"
 
 
 def all_pages():
@@ -215,6 +228,16 @@ def unnamed_blocks(pages):
             yield f"{name}: {block}: no such test: {test}"
 
 
+def contradictions(_pages):
+    """The figures that say something else than the table or the page that has them too."""
+    return other_figures(lambda name: (ROOT / name).read_text(encoding="utf-8"))
+
+
+def wordings(pages):
+    """The words that pages shouldn't use, and sentences for users that are too long."""
+    return complaints({str(page.relative_to(ROOT)): text for page, text in pages.items()})
+
+
 def logics(text):
     """The logics of the toolchain that a text names."""
     return set(re.findall(r"\blogic ([0-9a-f]{16})\b", text))
@@ -241,12 +264,13 @@ def main():
         pages = all_pages()
         checks = (
             ("links that lead nowhere", broken_links), ("pages that no link leads to", unreached), ("questions", unanswered),
-            ("blocks", unnamed_blocks),
+            ("blocks", unnamed_blocks), ("figures", contradictions), ("wording", wordings),
         )  # fmt: skip
         by_looking = ((ROOT / "README.md", words, [], [*check(pages)]) for words, check in checks)
         at = ROOT / "docs/limits.md"
         at_limits = ((at, command, fits, not printed(command, folder, path)) for command, fits in limits(pages[at]))
-        for page, command, shown, found in [*outcomes, *names_of_the_logic(), *by_looking, *at_limits]:
+        scores = ((at, command, shown, printed(command, folder, path)) for command, shown in greatest_scores(pages[at]))
+        for page, command, shown, found in [*outcomes, *names_of_the_logic(), *by_looking, *at_limits, *scores]:
             if found == shown:
                 passed += 1
             else:

@@ -32,7 +32,7 @@ PARTS = {  # those that take longest first
     "recipes": ["tests/recipes"],
     "gate": ["tests/gate"],
 }
-PATHS = "tests", "python", "service"  # what tests import from
+PATHS = "tests", "python", "service", "service/tests"  # what tests import from
 PREFORK = "build/rtfilter-prefork.so"
 PYTHON = "/usr/bin/python3"  # that of Debian, with its packages
 AT_ONCE = 2  # parts: some measure how long a call takes

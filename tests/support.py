@@ -13,7 +13,27 @@ PACKAGE = ROOT / "python"
 DATA = ROOT / "examples/data"
 PROGRAM = os.environ.get("RTFILTER_PROGRAM", str(ROOT / "build/rtfilter"))
 
-LONGEST = 120.0  # seconds that anything may take, on a busy machine
+LONGEST = 30.0  # seconds that anything may take
+
+# Stands before the words of a Python command: what it does with a module and a statement is to run the statement as the module is
+# looked for.
+AT_IMPORT = """
+import os, runpy, signal, sys
+_, module, statement, python, option, *sys.argv = sys.argv
+class Finder:
+    def find_spec(name, *_):
+        if name == module:
+            exec(statement)
+signal.signal(signal.SIGHUP, signal.SIG_DFL)
+signal.signal(signal.SIGINT, signal.default_int_handler)
+sys.meta_path.insert(0, Finder)
+if sys.argv[0] == "-m":
+    del sys.argv[0]
+    runpy.run_module(sys.argv[0], run_name="__main__", alter_sys=True)
+else:
+    runpy.run_path(sys.argv[0], run_name="__main__")
+"""
+HANG_UP, INTERRUPT = (f"os.kill(os.getpid(), signal.{it})" for it in ("SIGHUP", "SIGINT"))
 
 
 def environment() -> dict[str, str]:

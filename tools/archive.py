@@ -4,8 +4,8 @@
 usage: tools/archive.py FOLDER
 
 `rt ci` proves a static library and builds none. `rt lib` builds it, but takes a library below only if a stamp says from which
-files it was built, and `rt ci` leaves none. So the crates are copied into FOLDER with what was built of them, each gets the
-stamp that `rt` computes for its files, and `rt lib` proves and builds rtfilter_c there. Prints the path of the archive.
+files it was built, and `rt ci` leaves none. So the crates are copied into FOLDER with what was built of them, each gets its stamp
+(`stamp_library` in kit.py), and `rt lib` proves and builds rtfilter_c there. Prints the path of the archive.
 """
 
 import os
@@ -24,11 +24,9 @@ def main():
     crates = kit.with_below([NAME], kit.dependencies())
     kit.copy_crates(crates, folder)
     os.chdir(folder)
-    rtlib = kit.load().rtlib
     for name in crates[:-1]:
         kit.take_library(name, folder)
-        crate = rtlib.Crate(f"{folder}/crates/{name}", str(folder), {})
-        Path(f"crates/{name}/out/rlib/stamp").write_text(crate.stamp())
+        kit.stamp_library(name, folder)
     ran = subprocess.run(["rt", "lib", "--jobs", "2"], cwd=f"crates/{NAME}", stdin=subprocess.DEVNULL, stdout=subprocess.PIPE,
                          stderr=subprocess.STDOUT, text=True)
     if ran.returncode:

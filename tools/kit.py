@@ -1,8 +1,11 @@
-"""The command `rt` as a module, and a copy of the crates to work in.
+"""Copies of the crates to work in, and what `rt` built of them.
 
-`rt` is a Python script. What it knows of crates, of the words of a check and of edits isn't written here again.
+`rt` is used by its commands, and by the folders in which these leave what they made: `out/rlib` has a crate's library, and
+`out/incremental` what its checks proved.
 """
 
+import contextlib
+import functools
 import importlib.machinery
 import importlib.util
 import os
@@ -13,15 +16,8 @@ from pathlib import Path
 sys.dont_write_bytecode = True
 ROOT = Path(__file__).resolve().parent.parent
 PARTS = "src", "specs", "proofs", "edits"
-
-
-def load():
-    """The module of the command `rt`."""
-    path = os.path.realpath(shutil.which("rt"))
-    loader = importlib.machinery.SourceFileLoader("rt", path)
-    module = importlib.util.module_from_spec(importlib.util.spec_from_loader("rt", loader))
-    loader.exec_module(module)
-    return module
+# The folder in `out/incremental` for what a check offers to write, which is no proof.
+HELP = "*-offers"
 
 
 def dependencies(top=ROOT):
@@ -52,12 +48,17 @@ def link(source, target):
         shutil.copy2(source, target)
 
 
-def copy_crates(names, folder, top=ROOT):
+def link_folder(source, target):
+    """A folder with the files of another one, each under a second name, but for the help that a check writes anew each time."""
+    shutil.copytree(source, target, copy_function=link, dirs_exist_ok=True, ignore=shutil.ignore_patterns(HELP))
+
+
+def copy_crates(names, folder, top=ROOT, copy=shutil.copy2):
     """Copies crates into a folder, as they stand, without what was built of them."""
     for name in names:
         for part in PARTS:
             if (top / "crates" / name / part).is_dir():
-                shutil.copytree(top / "crates" / name / part, folder / "crates" / name / part)
+                shutil.copytree(top / "crates" / name / part, folder / "crates" / name / part, copy_function=copy)
     shutil.copy(top / "HANDLES", folder)
     lines = (top / "crates.txt").read_text().splitlines()
     (folder / "crates.txt").write_text("".join(f"{it}\n" for it in lines if it.split(":")[0].split(" ")[0] in names))
@@ -65,4 +66,25 @@ def copy_crates(names, folder, top=ROOT):
 
 def take_library(name, folder, top=ROOT):
     """Gives a copied crate the library that was built of the original."""
-    shutil.copytree(top / "crates" / name / "out/rlib", folder / "crates" / name / "out/rlib", copy_function=link)
+    link_folder(top / "crates" / name / "out/rlib", folder / "crates" / name / "out/rlib")
+
+
+@functools.cache
+def library_of_rt():
+    """The module that `rt` has for crates and their libraries."""
+    path = Path(os.path.realpath(shutil.which("rt"))).parent / "rtlib.py"
+    loader = importlib.machinery.SourceFileLoader("rtlib", str(path))
+    module = importlib.util.module_from_spec(importlib.util.spec_from_loader("rtlib", loader))
+    loader.exec_module(module)
+    return module
+
+
+def stamp_library(name, folder):
+    """Has `rt` take a copied library that `rt ci` built for what it is: built of the files beside it.
+
+    `rt` knows that by a stamp, which `rt ci` doesn't leave, and which is computed here as `rt` does. Where this `rt` does so in another
+    way, or has no stamps, `rt lib` proves the library again: right, and slower.
+    """
+    with contextlib.suppress(Exception, SystemExit):
+        crate = library_of_rt().Crate(f"{folder}/crates/{name}", str(folder), {})
+        (folder / "crates" / name / "out/rlib/stamp").write_text(crate.stamp())

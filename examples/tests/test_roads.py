@@ -94,12 +94,12 @@ def test_records(tmp_path: Path) -> None:
 def test_refusals(tmp_path: Path) -> None:
     for positions, options, why in (
         ("longitude,latitude\n0,91\n", [], "outside of the plane"),
-        ("longitude,latitude\nx,1\n", [], "could not convert string to float: 'x'"),
-        ("x,y\n1,1\n", [], "'longitude' is not in list"),
+        ("longitude,latitude\nx,1\n", [], "'x' is no number"),
+        ("x,y\n1,1\n", [], "positions.csv: it has no columns longitude,latitude: give --columns X,Y"),
         ("longitude,latitude\n1,1\n", ["--nearest", "-1"], "argument --nearest: 1 or more"),
     ):
         done = run(tmp_path, [line(1, [(0, 0), (1, 1)])], positions, *options)
-        assert done.returncode != 0 and why in done.stderr
+        assert done.returncode != 0 and done.stderr.splitlines()[-1].endswith(why) and "Traceback" not in done.stderr
 
 
 def test_page() -> None:

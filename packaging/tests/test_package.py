@@ -173,6 +173,7 @@ class Packages(unittest.TestCase):
                 self.assertIn(f".BR {other} (1)", manual.decode())
         changes = gzip.decompress((tree / "usr/share/doc/rtfilter/changelog.Debian.gz").read_bytes()).decode()
         self.assertTrue(changes.startswith(f"rtfilter ({VERSION}-1) "), changes)
+        self.assertEqual(changes.count("\n  * "), (ROOT / "CHANGELOG.md").read_text(encoding="utf-8").count("\n- "))
 
     def test_the_library(self) -> None:
         """In a clean folder, the program of its page is compiled as the page says, and prints what the page shows."""

@@ -14,6 +14,7 @@
 
 enum {
     FEW = 256,            /* answers that a session has a buffer for at first */
+    FIRST = 1 << 13,      /* and many queries */
     MANY = 1 << 20,       /* answers, and bytes of a reply, that it keeps a buffer for */
     STEP = 64,            /* queries of one call of the library, at most */
     SLICE_NS = 10000000,  /* after so many nanoseconds a signal is looked for */
@@ -254,10 +255,10 @@ typedef struct {
     bool has_scores;
 } request;
 
-#define NOT_CONVEX "polygon not strictly convex" /* as rtfilter_query_message() has it */
+#define TURNED "minimum above maximum"
 #define AT(member) offsetof(rtfilter_query, member)
 #define BOX {AT(min_x), AT(max_x), AT(min_y), AT(max_y)}
-enum { CIRCLE = 4, POLYGON = 5, ORDERS = 6, KINDS = 8 };
+enum { ORDERS = 6, KINDS = 8 };
 
 /* Regions and orders by their classes: the code, and where each number goes. */
 static struct kind {
@@ -286,12 +287,6 @@ static PyObject *raise_query(PyObject *region, Py_ssize_t at, const char *code, 
     Py_XDECREF(error);
     Py_XDECREF(place);
     return NULL;
-}
-
-static PyObject *raise_refused(const request *it)
-{
-    const bool is_polygon = it->query.region == RTFILTER_POLYGON;
-    return raise_query(it->region, -1, is_polygon ? "Q9" : "Q7", is_polygon ? NOT_CONVEX : "minimum above maximum");
 }
 
 /* A whole number, or what Python takes for an index. A new reference. */
@@ -347,6 +342,9 @@ static bool put_vertices(request *it, PyObject *polygon)
             put_number(it, x, polygon, &it->vertices[at].x, false))
             put_number(it, y, polygon, &it->vertices[at].y, false);
     it->query.vertices = (uint32_t)count;
+    const rtfilter_queries queries = {&it->query, 1, it->vertices, it->query.vertices};
+    if (!PyErr_Occurred() && strcmp(rtfilter_query_message(&queries, 0), "valid query"))
+        raise_query(polygon, -1, "Q9", "polygon not strictly convex");
     return !PyErr_Occurred();
 }
 
@@ -388,7 +386,7 @@ static bool put_region(request *it, PyObject *value)
     }
     if (it->query.min_x <= it->query.max_x && it->query.min_y <= it->query.max_y)
         return true;
-    raise_refused(it);
+    raise_query(value, -1, "Q7", TURNED);
     return false;
 }
 
@@ -463,27 +461,11 @@ static bool put_layers(request *it, PyObject *on)
     return !PyErr_Occurred();
 }
 
-static bool is_not_convex(const request *it)
-{
-    const rtfilter_queries queries = {&it->query, 1, it->vertices, it->query.vertices};
-    return it->query.region == RTFILTER_POLYGON && !strcmp(rtfilter_query_message(&queries, 0), NOT_CONVEX);
-}
-
-/* Puts the arguments after the region. Of two faults the polygon's is raised, which is the first one in a query line. */
+/* Puts the arguments after the region, as words of a query line come: the first fault is raised. */
 static bool put_rest(request *it, PyObject *order, PyObject *first, PyObject *on)
 {
-    if ((order == Py_None || put_order(it, order)) && (on == Py_None || put_layers(it, on)) && (first == Py_None || put_limit(it, first)))
-        return true;
-    if (PyErr_ExceptionMatches(query_error) && is_not_convex(it)) {
-        PyErr_Clear();
-        raise_refused(it);
-    }
-    return false;
+    return (on == Py_None || put_layers(it, on)) && (order == Py_None || put_order(it, order)) && (first == Py_None || put_limit(it, first));
 }
-
-/* The arguments of a find: region, order and first by place or name, on and scores by name. */
-enum { REGION, ORDER, FIRST, ON, SCORES, ARGUMENTS, BY_PLACE = ON };
-static const char *const argument_names[ARGUMENTS] = {"region", "order", "first", "on", "scores"};
 
 /* Arguments by place, as many as are allowed, and those by their known names. */
 static bool put_arguments(PyObject **given, const char *const *known, int most, int by_place, PyObject *const *args,
@@ -510,20 +492,33 @@ static bool put_arguments(PyObject **given, const char *const *known, int most, 
     return true;
 }
 
-static bool request_of(request *it, PyObject *const *args, Py_ssize_t count, PyObject *names)
+static bool put_all(request *it, PyObject *region, PyObject *order, PyObject *first, PyObject *on)
 {
-    PyObject *given[ARGUMENTS] = {NULL, Py_None, Py_None, Py_None, Py_False};
     it->query = rtfilter_all();
     it->region = NULL;
-    if (!put_arguments(given, argument_names, ARGUMENTS, BY_PLACE, args, count, names))
-        return false;
-    if (!given[REGION]) {
+    if (!region)
         PyErr_SetString(PyExc_TypeError, "no region");
+    return region && put_region(it, region) && put_rest(it, order, first, on);
+}
+
+/* The request of a find: region, order and first by place or name, on and scores by name. */
+static bool find_of(request *it, PyObject *const *args, Py_ssize_t count, PyObject *names)
+{
+    static const char *const known[] = {"region", "order", "first", "on", "scores"};
+    PyObject *given[] = {NULL, Py_None, Py_None, Py_None, Py_False};
+    if (!put_arguments(given, known, 5, 3, args, count, names))
         return false;
-    }
-    const int has_scores = PyObject_IsTrue(given[SCORES]);
+    const int has_scores = PyObject_IsTrue(given[4]);
     it->has_scores = has_scores > 0;
-    return has_scores >= 0 && put_region(it, given[REGION]) && put_rest(it, given[ORDER], given[FIRST], given[ON]);
+    return has_scores >= 0 && put_all(it, given[0], given[1], given[2], given[3]);
+}
+
+/* The request of a count: a region by place or name, and layers by name. */
+static bool count_of(request *it, PyObject *const *args, Py_ssize_t count, PyObject *names)
+{
+    static const char *const known[] = {"region", "on"};
+    PyObject *given[] = {NULL, Py_None};
+    return put_arguments(given, known, 2, 1, args, count, names) && put_all(it, given[0], Py_None, Py_None, given[1]);
 }
 
 /* ---- Answers to one query, as lists */
@@ -575,11 +570,10 @@ static Py_ssize_t find_all(worker *by, const request *it)
         Py_END_ALLOW_THREADS
         count += part.found;
     }
-    if (code == RTFILTER_BAD_QUERY)
-        raise_refused(it);
-    else if (code != RTFILTER_OK)
-        failed(code);
-    return code == RTFILTER_OK ? (Py_ssize_t)count : -1;
+    if (code == RTFILTER_OK)
+        return (Py_ssize_t)count;
+    failed(code);
+    return -1;
 }
 
 static PyObject *found(Table *self, const request *it)
@@ -596,7 +590,7 @@ static PyObject *found(Table *self, const request *it)
 static PyObject *table_find(Table *self, PyObject *const *args, Py_ssize_t count, PyObject *names)
 {
     request it;
-    return request_of(&it, args, count, names) ? found(self, &it) : NULL;
+    return find_of(&it, args, count, names) ? found(self, &it) : NULL;
 }
 
 static PyObject *table_nearest(Table *self, PyObject *const *args, Py_ssize_t count, PyObject *names)
@@ -635,25 +629,7 @@ static PyObject *measured(measure *call, Table *self, const request *it)
     code = call(&by->session, &queries, &number, NULL);
     Py_END_ALLOW_THREADS
     give_back(self, by);
-    if (code == RTFILTER_BAD_QUERY)
-        return raise_refused(it);
     return code == RTFILTER_OK ? PyLong_FromUnsignedLongLong(number) : failed(code);
-}
-
-/* A count has a region and layers alone. */
-static bool count_of(request *it, PyObject *const *args, Py_ssize_t count, PyObject *names)
-{
-    if (count > 1) {
-        PyErr_Format(PyExc_TypeError, "%zd arguments by place, of at most 1", count);
-        return false;
-    }
-    for (Py_ssize_t at = 0; names && at < PyTuple_Size(names); at++)
-        for (int name = ORDER; name < ARGUMENTS; name++)
-            if (name != ON && !PyUnicode_CompareWithASCIIString(PyTuple_GetItem(names, at), argument_names[name])) {
-                PyErr_Format(PyExc_TypeError, "a count has no argument %s", argument_names[name]);
-                return false;
-            }
-    return request_of(it, args, count, names);
 }
 
 static PyObject *table_count(Table *self, PyObject *const *args, Py_ssize_t count, PyObject *names)
@@ -665,7 +641,7 @@ static PyObject *table_count(Table *self, PyObject *const *args, Py_ssize_t coun
 static PyObject *cost_of_find(Table *self, PyObject *const *args, Py_ssize_t count, PyObject *names)
 {
     request it;
-    return request_of(&it, args, count, names) ? measured(rtfilter_cost_of_find, self, &it) : NULL;
+    return find_of(&it, args, count, names) ? measured(rtfilter_cost_of_find, self, &it) : NULL;
 }
 
 static PyObject *cost_of_count(Table *self, PyObject *const *args, Py_ssize_t count, PyObject *names)
@@ -702,7 +678,9 @@ static int64_t nanoseconds(void)
 typedef struct {
     rtfilter_queries left; /* those that aren't answered yet */
     size_t skip;           /* how many answers of the first of them were taken */
-    Py_ssize_t place;      /* the place of the first of them */
+    Py_ssize_t place;      /* the place of the first of them, among so many */
+    Py_ssize_t total;
+    uint64_t *counts;      /* where the next count goes; null where answers are found */
     int64_t *places, *ids;
     rtfilter_score *scores; /* null if there are to be none */
     size_t capacity, kept;
@@ -716,24 +694,27 @@ static bool meet(const double *one, const double *other)
     return one[0] <= other[2] && other[0] <= one[2] && one[1] <= other[3] && other[1] <= one[3];
 }
 
+/* Whether the filter keeps an answer. */
 static bool is_kept(const finding *it, int64_t id)
 {
-    return !it->windows || (id >= 0 && id < it->box_count && it->place < it->window_count &&
-                            meet(it->boxes + 4 * id, it->windows + 4 * it->place));
+    return id >= 0 && id < it->box_count && it->place < it->window_count && meet(it->boxes + 4 * id, it->windows + 4 * it->place);
 }
 
-/* Keeps answers behind those that are kept, with their places, and drops those that the filter refuses. */
+/* Puts answers, which stand behind those that are kept, with their places. Those that the filter refuses are dropped. */
 static void keep(finding *it, const rtfilter_answers *part)
 {
-    int64_t *ids = part->ids;
+    int64_t *ids = part->ids, *places = it->places;
     size_t at = 0, kept = it->kept;
     for (size_t query = 0; query <= part->done; query++) {
         const size_t end = query < part->done ? part->ends[query] : part->found;
+        const int64_t place = it->place;
+        for (; !it->windows && at < end; at++)
+            places[kept++] = place;
         for (; at < end; at++) {
-            if (it->windows && at + AHEAD < part->found)
+            if (at + AHEAD < part->found)
                 __builtin_prefetch(it->boxes + 4 * ids[at + AHEAD]);
             if (is_kept(it, ids[at])) {
-                it->places[kept] = it->place;
+                places[kept] = place;
                 it->ids[kept++] = ids[at];
             }
         }
@@ -742,43 +723,47 @@ static void keep(finding *it, const rtfilter_answers *part)
     it->kept = kept;
 }
 
-/* Answers so many queries, or those that are left: the library's code. */
-static int find_step(finding *it, worker *by, size_t step)
+/* Answers so many queries, or counts: the library's code. */
+static int answer(finding *it, worker *by, size_t len)
 {
     size_t ends[STEP];
-    const size_t len = it->left.len < step ? it->left.len : step, capacity = it->capacity - it->kept;
     rtfilter_queries some = {it->left.queries, len, NULL, 0};
-    rtfilter_answers part = {it->ids + it->kept, it->scores ? it->scores + it->kept : NULL, capacity, ends, 0, 0};
-    const int code = rtfilter_find(&by->session, &some, it->skip, &part);
-    keep(it, &part);
-    rtfilter_continue(&some, &it->skip, &part);
+    rtfilter_answers part = {it->ids + it->kept, it->scores ? it->scores + it->kept : NULL, it->capacity - it->kept, ends, 0, 0};
+    int code;
+    if (it->counts) {
+        code = rtfilter_count(&by->session, &some, it->counts, &part.done);
+        part.done = code == RTFILTER_OK ? len : part.done;
+        it->counts += part.done;
+        it->place += (Py_ssize_t)part.done;
+    } else {
+        code = rtfilter_find(&by->session, &some, it->skip, &part);
+        keep(it, &part);
+        rtfilter_continue(&some, &it->skip, &part);
+    }
     it->left.queries += part.done;
     it->left.len -= part.done;
     return code;
 }
 
-/* A step with twice as many queries takes no longer than all steps before, where queries are alike. */
-static size_t next_step(size_t step)
-{
-    return step < STEP ? 2 * step : STEP;
-}
-
-/* Answers queries until all are answered, the arrays are full, or it is time to look for a signal. */
-static int find_slice(finding *it, worker *by)
+/* Answers queries until all are answered, the arrays are full, or it is time to look for a signal. A step with twice as many queries
+ * takes no longer than all steps before, where queries are alike. */
+static int answer_slice(finding *it, worker *by)
 {
     const int64_t begun = nanoseconds();
     int code = RTFILTER_OK;
-    for (size_t step = 1; code == RTFILTER_OK && it->left.len > 0 && nanoseconds() - begun < SLICE_NS; step = next_step(step))
-        code = find_step(it, by, step);
+    for (size_t step = 1; code == RTFILTER_OK && it->left.len > 0 && nanoseconds() - begun < SLICE_NS; step = step < STEP ? 2 * step : STEP)
+        code = answer(it, by, it->left.len < step ? it->left.len : step);
     return code;
 }
 
-/* Grows the bytearrays of places, ids and scores, and sets where they are. */
-static bool grow(finding *it, PyObject *places, PyObject *ids, PyObject *scores)
+/* Grows the bytearrays of places, ids and scores where they are full, and sets where they are: for as many answers to the queries that
+ * are left as those so far had, within bounds. */
+static bool grow(finding *it, bool is_full, PyObject *places, PyObject *ids, PyObject *scores)
 {
-    const Py_ssize_t capacity = PyByteArray_Size(ids) / 8 - (Py_ssize_t)it->kept;
-    if (capacity < (Py_ssize_t)(it->kept + it->left.len + FEW) / 2) {
-        const Py_ssize_t items = 2 * (Py_ssize_t)it->kept + 32 * (Py_ssize_t)it->left.len + FEW;
+    const Py_ssize_t kept = (Py_ssize_t)it->kept, most = kept > MANY ? kept : MANY;
+    if (is_full || PyByteArray_Size(ids) / 8 - kept < FEW) {
+        const double expected = it->place > 0 ? 1.125 * (double)kept / (double)it->place * (double)(it->total - it->place) : 0;
+        const Py_ssize_t items = kept + FIRST + (expected > (double)most ? most : expected > (double)kept ? (Py_ssize_t)expected : kept);
         if (PyByteArray_Resize(places, 8 * items) < 0 || PyByteArray_Resize(ids, 8 * items) < 0 ||
             (scores != Py_None && PyByteArray_Resize(scores, 16 * items) < 0))
             return false;
@@ -790,17 +775,18 @@ static bool grow(finding *it, PyObject *places, PyObject *ids, PyObject *scores)
     return true;
 }
 
-static bool find_each_by(worker *by, finding *it, PyObject *places, PyObject *ids, PyObject *scores)
+/* Answers all queries. Counts have no bytearrays. */
+static bool answer_all(worker *by, finding *it, PyObject *places, PyObject *ids, PyObject *scores)
 {
+    int code = RTFILTER_OK;
     while (it->left.len > 0) {
-        int code;
-        if (!grow(it, places, ids, scores))
+        if (!it->counts && !grow(it, code == RTFILTER_FULL, places, ids, scores))
             return false;
         Py_BEGIN_ALLOW_THREADS
-        code = find_slice(it, by);
+        code = answer_slice(it, by);
         Py_END_ALLOW_THREADS
         if (code == RTFILTER_BAD_QUERY)
-            raise_query(NULL, it->place, "Q7", "minimum above maximum");
+            raise_query(NULL, it->place, "Q7", TURNED);
         else if (code != RTFILTER_OK && code != RTFILTER_FULL)
             failed(code);
         if (PyErr_Occurred() || PyErr_CheckSignals() < 0)
@@ -809,8 +795,8 @@ static bool find_each_by(worker *by, finding *it, PyObject *places, PyObject *id
     return true;
 }
 
-/* _find_each(queries, place, places, ids, scores, count[, boxes, windows]): adds the answers to queries, of which the first has this
- * place, to bytearrays, behind the first `count` answers there, and returns how many there are then. Scores may be None. With
+/* _find_each(queries, place, total, places, ids, scores, count[, boxes, windows]): adds the answers to queries, of which the first has
+ * this place among so many, to bytearrays, behind the first `count` answers there, and returns how many there are then. Scores may be None. With
  * boxes by id and windows by place, in floats, the answers that don't meet are left out; there are no scores then. */
 static PyObject *find_each(Table *self, PyObject *args)
 {
@@ -819,7 +805,7 @@ static PyObject *find_each(Table *self, PyObject *args)
     Py_ssize_t lens[3] = {-1, -1, -1}, count;
     const Py_ssize_t sizes[3] = {sizeof(rtfilter_query), 4 * sizeof(double), 4 * sizeof(double)};
     finding it = {0};
-    if (!PyArg_ParseTuple(args, "OnO!O!On|OO", from, &it.place, &PyByteArray_Type, &places, &PyByteArray_Type, &ids, &scores,
+    if (!PyArg_ParseTuple(args, "OnnO!O!On|OO", from, &it.place, &it.total, &PyByteArray_Type, &places, &PyByteArray_Type, &ids, &scores,
                           &count, from + 1, from + 2))
         return NULL;
     const int needed = from[2] ? 3 : 1;
@@ -835,46 +821,11 @@ static PyObject *find_each(Table *self, PyObject *args)
         it.windows = from[2] ? of[2].buf : NULL;
         it.box_count = lens[1];
         it.window_count = lens[2];
-        is_done = find_each_by(by, &it, places, ids, scores);
+        is_done = answer_all(by, &it, places, ids, scores);
         give_back(self, by);
     }
     release(of, views);
     return is_done ? PyLong_FromSize_t(it.kept) : NULL;
-}
-
-/* Counts until all are counted, or it is time to look for a signal. */
-static int count_slice(rtfilter_queries *left, uint64_t *counts, worker *by)
-{
-    const int64_t begun = nanoseconds();
-    int code = RTFILTER_OK;
-    for (size_t step = 1; code == RTFILTER_OK && left->len > 0 && nanoseconds() - begun < SLICE_NS; step = next_step(step)) {
-        const rtfilter_queries some = {left->queries, left->len < step ? left->len : step, NULL, 0};
-        size_t done = 0;
-        code = rtfilter_count(&by->session, &some, counts, &done);
-        done = code == RTFILTER_OK ? some.len : done;
-        left->queries += done;
-        left->len -= done;
-        counts += done;
-    }
-    return code;
-}
-
-static bool count_each_by(worker *by, const rtfilter_queries *queries, Py_ssize_t place, uint64_t *counts)
-{
-    rtfilter_queries left = *queries;
-    while (left.len > 0) {
-        int code;
-        Py_BEGIN_ALLOW_THREADS
-        code = count_slice(&left, counts + (queries->len - left.len), by);
-        Py_END_ALLOW_THREADS
-        if (code == RTFILTER_BAD_QUERY)
-            raise_query(NULL, place + (Py_ssize_t)(queries->len - left.len), "Q7", "minimum above maximum");
-        else if (code != RTFILTER_OK)
-            failed(code);
-        if (PyErr_Occurred() || PyErr_CheckSignals() < 0)
-            return false;
-    }
-    return true;
 }
 
 /* _count_each(queries, place): numbers of 8 bytes, where the first query has this place. */
@@ -888,9 +839,12 @@ static PyObject *count_each(Table *self, PyObject *args)
     worker *by = take(self);
     if (by) {
         all = PyByteArray_FromStringAndSize(NULL, len * (Py_ssize_t)sizeof(uint64_t));
-        const rtfilter_queries queries = {view.buf, (size_t)len, NULL, 0};
-        if (all && !count_each_by(by, &queries, place, (uint64_t *)PyByteArray_AsString(all)))
-            Py_CLEAR(all);
+        finding it = {.left = {view.buf, (size_t)len, NULL, 0}, .place = place};
+        if (all) {
+            it.counts = (uint64_t *)PyByteArray_AsString(all);
+            if (!answer_all(by, &it, NULL, NULL, NULL))
+                Py_CLEAR(all);
+        }
         give_back(self, by);
     }
     PyBuffer_Release(&view);
@@ -1026,16 +980,6 @@ static bool is_part(const Polygons *self, int64_t part)
     return false;
 }
 
-/* holds(part, x, y) */
-static PyObject *polygons_holds(Polygons *self, PyObject *args)
-{
-    long long part;
-    int x, y;
-    if (!PyArg_ParseTuple(args, "Lii", &part, &x, &y) || !is_part(self, part))
-        return NULL;
-    return PyBool_FromLong(holds(self, part, x, y));
-}
-
 /* holds_each(parts, points): a byte for each pair of a part, in 64 bits, and a point, as x and y of 32 bits. */
 static PyObject *polygons_holds_each(Polygons *self, PyObject *args)
 {
@@ -1095,7 +1039,6 @@ static PyType_Spec table_spec = {"rtfilter._engine.Table", sizeof(Table), 0,
                                  Py_TPFLAGS_DEFAULT | Py_TPFLAGS_BASETYPE | Py_TPFLAGS_DISALLOW_INSTANTIATION, table_slots};
 
 static PyMethodDef polygons_methods[] = {
-    {"holds", CALL(polygons_holds), METH_VARARGS, NULL},
     {"holds_each", CALL(polygons_holds_each), METH_VARARGS, NULL},
     {0},
 };

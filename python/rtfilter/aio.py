@@ -12,7 +12,7 @@ from collections.abc import Iterable
 from types import TracebackType
 from typing import Any, Self
 
-from .client import PIECE, Address, name_of
+from .client import PIECE, Address, name_of, named
 from .errors import Disconnected, TimedOut
 from .regions import All, Layers, Order, Region, count_line, find_line, nearest_line
 from .replies import MARKER, Answers, Reply, cut, ended, is_whole, joined, listed, reason, renumbered, single
@@ -28,6 +28,7 @@ class Client:
     """
 
     def __init__(self, address: Address, timeout: float | None = None) -> None:
+        name_of(address)  # which raises TypeError for none
         self._address, self._timeout, self._process = address, timeout, os.getpid()
         self._lock = asyncio.Lock()
         self._streams: Streams | None = None
@@ -161,5 +162,4 @@ async def _opened(address: Address) -> Streams:
             return await asyncio.open_connection(*address)
         return await asyncio.open_unix_connection(os.fspath(address))
     except OSError as error:
-        error.filename = name_of(address)
-        raise
+        raise named(error, address)

@@ -5,6 +5,7 @@ Only calls about arrays import this module, and numpy with it.
 
 from collections.abc import Iterable, Iterator, Sequence
 from copy import copy
+from functools import cache
 from operator import index
 from typing import Any, Self
 
@@ -95,14 +96,23 @@ def _whole(number: Any, what: str, at: int, width: int) -> int:
         raise TypeError(f"{what}: row {at // width}: {number!r} isn't a whole number{help}") from None
 
 
+@cache
+def limits_of(format: str) -> tuple[int, int]:
+    """The least and the greatest number of a format."""
+    info = numpy.iinfo(format)
+    return info.min, info.max
+
+
 def first_beyond(columns: Columns, formats: Sequence[str]) -> tuple[int, int] | None:
     """The first row with a number out of the range of its column's format, and the column; None where there is none."""
     found = []
     for at, (column, format) in enumerate(zip(columns, formats)):
-        limits = numpy.iinfo(format)
+        if numpy.can_cast(column.dtype, format) or not len(column):
+            continue
+        least, most = limits_of(format)
         # (numpy 1 compares a number of its own of 64 unsigned bits to a signed one in floats)
-        if len(column) and (int(column.min()) < limits.min or int(column.max()) > limits.max):
-            found.append((int(numpy.argmax((column < limits.min) | (column > limits.max))), at))
+        if int(column.min()) < least or int(column.max()) > most:
+            found.append((int(numpy.argmax((column < least) | (column > most))), at))
     return min(found, default=None)
 
 
@@ -141,10 +151,11 @@ class Queries:
     def parts(self) -> Iterator[tuple[int, NDArray[Any]]]:
         """The place of the first query of each part, and the part. Raises QueryError for a number out of range, once the
         queries before it were given."""
-        queries = numpy.frombuffer(bytearray(self._prototype * min(PART, len(self))), QUERY)
+        queries = numpy.repeat(numpy.frombuffer(self._prototype, f"V{QUERY.itemsize}"), min(PART, len(self))).view(QUERY)
+        formats = [QUERY[name].str for name in self._members]
         for begin in range(0, len(self), PART):
             columns = [it[begin : begin + PART] for it in self.columns]
-            beyond = first_beyond(columns, [QUERY[name].str for name in self._members])
+            beyond = first_beyond(columns, formats)
             count = len(columns[0]) if beyond is None else beyond[0]
             some = queries[:count]
             for name, column in zip(self._members, columns):

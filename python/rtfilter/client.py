@@ -227,8 +227,19 @@ class Client(SingleCalls):
 
 
 def name_of(address: Address) -> str:
-    """An address in the text of an error."""
-    return "{}:{}".format(*address) if isinstance(address, tuple) else os.fspath(address)
+    """An address in the text of an error. Raises TypeError for what is none."""
+    if isinstance(address, tuple) and len(address) == 2:
+        return "{}:{}".format(*address)
+    if not isinstance(address, (str, os.PathLike)):
+        raise TypeError(f"an address is the path of a socket or (host, port), and not {address!r:.50}")
+    return os.fspath(address)
+
+
+def named(error: OSError, address: Address) -> OSError:
+    """An error with the address, if it is one of the system: else its text says all."""
+    if error.errno:
+        error.filename = name_of(address)
+    return error
 
 
 def connected(address: Address, deadline: Deadline) -> socket.socket:
@@ -244,8 +255,7 @@ def connected(address: Address, deadline: Deadline) -> socket.socket:
     except TimeoutError:
         raise TimedOut(f"no connection to {name_of(address)} in time") from None
     except OSError as error:
-        error.filename = name_of(address)
-        raise
+        raise named(error, address)
 
 
 def _connected_here(path: str, deadline: Deadline) -> socket.socket:

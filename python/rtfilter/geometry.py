@@ -148,6 +148,8 @@ def objects(geometries: Any) -> Objects:
     listed = list(given)
     found = numpy.empty(len(listed), object)
     for at, it in enumerate(listed):
+        if it is not None and not hasattr(it, "geom_type"):
+            raise TypeError(f"geometries[{at}]: {it!r:.50} is no geometry")
         found[at] = it
     return found
 

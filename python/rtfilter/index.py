@@ -28,10 +28,11 @@ class Index:
 
     def _sides(self, coordinates: Sequence[float]) -> tuple[float, ...]:
         """min_x, min_y, max_x, max_y"""
-        if len(coordinates) == 2:
-            x, y = coordinates
-            return x, y, x, y
-        first, second, third, fourth = coordinates
+        try:
+            x, y, *more = coordinates
+            first, second, third, fourth = coordinates if more else (x, y, x, y) if self.interleaved else (x, x, y, y)
+        except (TypeError, ValueError):
+            raise TypeError(f"coordinates are two or four numbers, and not {coordinates!r:.50}") from None
         return (first, second, third, fourth) if self.interleaved else (first, third, second, fourth)
 
     def _bounds(self, coordinates: Sequence[float]) -> Floats:

@@ -34,7 +34,10 @@ class _Box(_OwnKind):
     @classmethod
     def from_bounds(cls, bounds: Iterable[int]) -> Self:
         """The same from (min_x, min_y, max_x, max_y): the order of shapely's `bounds`, of GeoJSON's `bbox` and of rtree."""
-        min_x, min_y, max_x, max_y = bounds
+        try:
+            min_x, min_y, max_x, max_y = bounds
+        except (TypeError, ValueError):
+            raise TypeError(f"bounds are min_x, min_y, max_x and max_y, and not {bounds!r:.50}") from None
         return tuple.__new__(cls, (min_x, max_x, min_y, max_y))
 
     def __str__(self) -> str:
@@ -84,7 +87,10 @@ class Polygon(_OwnKind, NamedTuple("Polygon", [("vertices", tuple[tuple[int, int
     __slots__ = ()
 
     def __new__(cls, vertices: Iterable[tuple[int, int]]) -> Self:
-        return super().__new__(cls, tuple((x, y) for x, y in vertices))
+        try:
+            return super().__new__(cls, tuple((x, y) for x, y in vertices))
+        except (TypeError, ValueError):
+            raise TypeError(f"vertices are pairs (x, y), and not {vertices!r:.50}") from None
 
     @classmethod
     def _make(cls, iterable: Iterable[Any]) -> Self:  # type: ignore[override]  # (which `_replace` calls too)

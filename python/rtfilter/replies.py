@@ -25,8 +25,8 @@ Reply = Union[Answers, QueryError, None]
 
 def listed(lines: Iterable[str]) -> list[str]:
     """Query lines as a list. Raises TypeError for one text in place of lines, ValueError for a line that holds a line feed."""
-    if isinstance(lines, (str, bytes)):
-        raise TypeError("lines are an iterable of texts, and not one text")
+    if isinstance(lines, (str, bytes)) or not isinstance(lines, Iterable):
+        raise TypeError(f"lines are an iterable of texts, and not {lines!r:.50}")
     found = list(lines)
     for line in found:
         if not isinstance(line, str):

@@ -34,7 +34,7 @@ class Rtfilter(_engine.Table, Closable, BulkCalls):
     """
 
     def __new__(cls, table: Any, *, header: bool = False, fanout: int = 16, max_entries: int = MOST_ENTRIES) -> Self:
-        if isinstance(table, (str, os.PathLike)):
+        if isinstance(table, (str, bytes, os.PathLike)):
             return cls._open_named(table, header, fanout, max_entries)
         if header:
             raise ValueError("only a CSV file has a header")
@@ -64,11 +64,11 @@ class Rtfilter(_engine.Table, Closable, BulkCalls):
         return cls._open_columns(columns, fanout, max_entries)
 
     @classmethod
-    def _open_named(cls, name: "str | os.PathLike[str]", header: bool, fanout: int, max_entries: int) -> Self:
+    def _open_named(cls, name: "str | bytes | os.PathLike[str]", header: bool, fanout: int, max_entries: int) -> Self:
         try:
             return cls._open_file(name, header, fanout, max_entries)
         except TableError as error:
-            error.file = os.fspath(name)
+            error.file = os.fsdecode(name)
             raise
 
     @classmethod
@@ -96,6 +96,8 @@ class Rtfilter(_engine.Table, Closable, BulkCalls):
     def _open_rows(cls, rows: Iterable[Any], fanout: int, max_entries: int) -> Self:
         columns = [array(code) for code in CODES]
         for record, row in enumerate(rows, 1):
+            if not isinstance(row, Iterable):
+                raise TypeError(f"row {record - 1}: {row!r:.50} isn't a row of {', '.join(FIELDS[:5])}")
             fields = tuple(row)
             if len(fields) not in (5, 6):
                 cls._refuse(columns, TableError(FIELD_COUNT, record, len(fields)), fanout, max_entries)
@@ -158,7 +160,7 @@ class Rtfilter(_engine.Table, Closable, BulkCalls):
         count = 0
         for place, part in queries.parts():
             with _named(queries):
-                count = self._find_each(part, place, places, ids, scores, count, *exact)
+                count = self._find_each(part, place, len(queries), places, ids, scores, count, *exact)
         numbers = arrays.numbers_of(places, "i8", count), arrays.numbers_of(ids, "i8", count)
         return *numbers, None if scores is None else arrays.scores_of(scores, count)
 

@@ -35,6 +35,8 @@ class Tables(SingleCalls, BulkCalls):
     """
 
     def __init__(self, members: Iterable[Rtfilter | Client]) -> None:
+        if not isinstance(members, Iterable):
+            raise TypeError(f"members are tables or clients, and not {members!r:.50}")
         self._members = [*members]
         if not self._members:
             raise ValueError("members: no table is given")

@@ -1,7 +1,9 @@
 """Which polygons hold a point, exactly."""
 
 import math
-from collections.abc import Iterator, Mapping
+from array import array
+from collections.abc import Iterable, Iterator, Mapping
+from itertools import compress
 from typing import Any
 
 import numpy
@@ -62,8 +64,8 @@ class Zones:
         """The places of the polygons that hold a point, the least first."""
         whole_x, whole_y = self._whole_number(x), self._whole_number(y)
         parts = self._table.find(Covers(whole_x, whole_x, whole_y, whole_y))
-        found = (int(self._zones[it]) for it in parts if self._polygons.holds(it, whole_x, whole_y))
-        return [*dict.fromkeys(found)]
+        held = self._polygons.holds_each(array("q", parts), array("i", [whole_x, whole_y]) * len(parts))
+        return [*dict.fromkeys(int(self._zones[it]) for it in compress(parts, held))]
 
     def holding_each(self, points: Any) -> tuple[NDArray[Any], NDArray[Any]]:
         """The places of many points, rows of x and y, and of the polygons that hold each of them, as two arrays."""
@@ -120,7 +122,10 @@ def _listed(polygons: Any) -> Iterator[Any]:
     """The geometries, or GeoJSON, of a frame, a collection or anything that can be iterated."""
     if isinstance(polygons, Mapping):
         polygons = polygons["features"] if "features" in polygons else [polygons]
-    return iter(getattr(polygons, "geometry", polygons))
+    found = getattr(polygons, "geometry", polygons)
+    if not isinstance(found, Iterable):
+        raise TypeError(f"polygons are geometries, a frame or GeoJSON, and not {polygons!r:.50}")
+    return iter(found)
 
 
 def _parts(polygon: Any) -> Any:

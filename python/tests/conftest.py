@@ -1,23 +1,22 @@
 """What the tests share: the program, a service over it, random tables."""
 
-import os
+import contextlib
 import random
 import subprocess
-import sys
-from collections.abc import Callable, Iterable, Iterator
+import tempfile
+from collections.abc import Callable, Iterator
 from pathlib import Path
 
 import pytest
 import random_runs
 import reading
+from served import Served
+from support import PROGRAM as PROGRAM, ROOT
 
 from rtfilter import Client, Rtfilter
 
-ROOT = Path(__file__).resolve().parents[2]
-PROGRAM = os.environ.get("RTFILTER_PROGRAM", str(ROOT / "build/rtfilter"))
-
 Run = Callable[[Path, bytes], bytes]
-Serve = Callable[..., Path]
+Serve = Callable[..., Served]
 Random = Callable[[random.Random], bytes]
 
 
@@ -68,41 +67,13 @@ def some_line() -> Random:
 
 
 @pytest.fixture
-def logged() -> list[str]:
-    """What services have logged until they were ready."""
-    return []
-
-
-@pytest.fixture
-def serve(tmp_path: Path, logged: list[str]) -> Iterator[Serve]:
-    """Starts a service for a table, and gives the path of its socket."""
-    services: list[subprocess.Popen[str]] = []
-
-    def serve(table: Path, *options: str) -> Path:
-        path = tmp_path / f"socket{len(services)}"
-        words = [sys.executable, ROOT / "service/serve.py", "--program", PROGRAM, "--unix", path, *options, table]
-        services.append(subprocess.Popen(words, stderr=subprocess.PIPE, text=True))
-        log = services[-1].stderr
-        assert log is not None
-        logged.extend(until("ready", log))
-        assert logged and "ready" in logged[-1], logged
-        return path
-
-    yield serve
-    for it in services:
-        it.terminate()
-        it.communicate()
-
-
-def until(word: str, lines: Iterable[str]) -> Iterator[str]:
-    """Lines up to the first that holds a word."""
-    for line in lines:
-        yield line
-        if word in line:
-            return
+def serve(tmp_path: Path) -> Iterator[Serve]:
+    """Starts a service for a table."""
+    with contextlib.ExitStack() as stack:
+        yield lambda table, *options: stack.enter_context(Served(tempfile.mkdtemp(dir=tmp_path), table, *options))
 
 
 @pytest.fixture
 def client(serve: Serve, data: Path) -> Iterator[Client]:
-    with Client(serve(data / "boxes.csv"), timeout=20) as client:
+    with Client(serve(data / "boxes.csv").path, timeout=20) as client:
         yield client

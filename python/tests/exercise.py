@@ -49,20 +49,19 @@ def single(table: Rtfilter) -> list[str]:
 def many(table: Rtfilter) -> list[str]:
     queries = _engine.query_of(All, Near(3, 3), 700, [0, 5]) * 200 + _engine.query_of(Circle, None, None, None)
     places, ids, scores = bytearray(), bytearray(), bytearray()
-    count = table._find_each(queries, 5, places, ids, scores, 0)
+    count = table._find_each(queries, 5, 206, places, ids, scores, 0)
     boxes, windows = array("d", [0.0, 0.0, 1.0, 1.0] * 1200), array("d", [2.0, 2.0, 3.0, 3.0] * 200)
     window = _engine.query_of(All, None, None, None) * 200
-    filtered = table._find_each(window, 0, bytearray(), bytearray(), None, 0, boxes, windows)
+    filtered = table._find_each(window, 0, 200, bytearray(), bytearray(), None, 0, boxes, windows)
     bad = _engine.query_of(Window, None, None, None).replace(b"\0" * 8, b"\1\0\0\0\0\0\0\0", 1)
     others = [
-        lambda: table._find_each(b"x", 0, places, ids, None, 0),
-        lambda: table._find_each(queries, 0, b"", ids, None, 0),  # type: ignore[arg-type]
+        lambda: table._find_each(b"x", 0, 0, places, ids, None, 0),
+        lambda: table._find_each(queries, 0, 201, b"", ids, None, 0),  # type: ignore[arg-type]
         lambda: table._count_each(bad * 70, 0),
         lambda: table._count_each(queries, 0),
         lambda: _engine.query_of(Polygon, None, None, None),
         lambda: _engine.Polygons(*SQUARE).holds_each(array("q", [0] * 3), array("i", [3, 3, 9, 9, 10, 9])),
-        lambda: _engine.Polygons(*SQUARE).holds(0, 3, 3),
-        lambda: _engine.Polygons(*SQUARE).holds(1, 3, 3),
+        lambda: _engine.Polygons(*SQUARE).holds_each(array("q", [1]), array("i", [3, 3])),
         lambda: _engine.Polygons(SQUARE[0], array("q", [0, 6]), SQUARE[2]),
         lambda: _engine.Polygons(SQUARE[0], SQUARE[1], array("q", [1, 0])),
         lambda: _engine.Polygons(SQUARE[0], SQUARE[1], b"x"),

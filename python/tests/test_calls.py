@@ -1,16 +1,12 @@
 """Single calls, and calls about arrays."""
 
-import random
 from pathlib import Path
 from typing import Any
 
 import numpy
-import pandas
 import pytest
 
 from rtfilter import All, Answers, Circle, Covers, Inside, Near, Polygon, QueryError, Rtfilter, Smallest, Window
-
-SPAN = 40
 
 
 def test_lists(boxes: Rtfilter) -> None:
@@ -52,7 +48,7 @@ def test_lines(boxes: Rtfilter) -> None:
     assert first == Answers([], [], 5) and second is None and fourth == Answers([2, 5], [0, 0], 2)
     assert isinstance(third, QueryError) and (third.query, third.code, third.text) == ("find window 1", "Q4", "missing word")
     assert boxes.replies([]) == [] and boxes.replies(iter(["#"])) == [None]
-    for bad, error in (("find all", TypeError), ([b"find all"], TypeError), (["a\nb"], ValueError), (["\ud800"], ValueError)):
+    for bad, error in (("find all", TypeError), (5, TypeError), ([b"find all"], TypeError), (["a\nb"], ValueError), (["\ud800"], ValueError)):
         with pytest.raises(error):
             boxes.replies(bad)  # type: ignore[arg-type]
     with pytest.raises(TypeError):
@@ -112,7 +108,7 @@ def test_invalid_queries(boxes: Rtfilter, region: Any, code: str, text: str) -> 
         (lambda it: it.find(All(), None, 1, 3), TypeError, "4 arguments by place, of at most 3"),
         (lambda it: it.find(All(), region=All()), TypeError, "argument 'region' twice"),
         (lambda it: it.find(All(), onn=3), TypeError, "no argument is called 'onn'"),
-        (lambda it: it.count(All(), first=3), TypeError, "a count has no argument first"),
+        (lambda it: it.count(All(), first=3), TypeError, "no argument is called 'first'"),
         (lambda it: it.count(All(), Smallest()), TypeError, "2 arguments by place, of at most 1"),
         (lambda it: it.find(All(), on=64), ValueError, "a layer is 0 to 63, and not 64"),
         (lambda it: it.find(All(), on=[3, -1]), ValueError, "a layer is 0 to 63, and not -1"),
@@ -120,6 +116,8 @@ def test_invalid_queries(boxes: Rtfilter, region: Any, code: str, text: str) -> 
         (lambda it: it.find(All(), on=[]), ValueError, "no layer is given; None stands for all layers"),
         (lambda it: it.find(All(), on=True), TypeError, "a layer is a whole number, and not True"),
         (lambda it: it.find(All(), on=[3, False]), TypeError, "a layer is a whole number, and not False"),
+        (lambda it: it.find(All(), Near(2**31, 0), on=64), ValueError, "a layer is 0 to 63, and not 64"),
+        (lambda it: it.find(Polygon([(0, 0), (1, 1), (2, 2)]), on=64), QueryError, "Q9 polygon not strictly convex"),
         (lambda it: it.find(All(), on="3"), TypeError, "layers are whole numbers, and not '3'"),
         (lambda it: it.find(All(), on=1.0), TypeError, "1.0 isn't a whole number"),
         (lambda it: it.find_each(numpy.zeros((1, 4))), TypeError, "windows: numbers are float64, and not whole"),
@@ -157,46 +155,6 @@ def test_invalid_queries_among_many(boxes: Rtfilter) -> None:
     assert (raised.value.query, raised.value.place) == (Near(0, 2**31), 1)
 
 
-def scattered(chance: random.Random, count: int) -> numpy.ndarray[Any, Any]:
-    low = numpy.array([[chance.randrange(-SPAN, SPAN) for _ in range(2)] for _ in range(count)])
-    size = numpy.array([[chance.randrange(9) for _ in range(2)] for _ in range(count)])
-    return numpy.hstack([low, low + size])[:, [0, 2, 1, 3]]
-
-
-@pytest.mark.parametrize("count", [1, 63, 64, 65, 500, 4095, 4097, 9001])
-def test_many_are_single_ones(count: int) -> None:
-    chance = random.Random(count)
-    table = Rtfilter(numpy.hstack([numpy.arange(800)[:, None] * 3 - 7, scattered(chance, 800), numpy.arange(800)[:, None] % 5]))
-    rows = scattered(chance, count)
-    looked_at = range(0, count, max(1, count // 50))
-
-    def same(found: Any, call: Any) -> None:
-        places, ids = found[0], found[1]
-        assert (numpy.diff(places) >= 0).all() and len(places) == len(ids)
-        for place in looked_at:
-            assert ids[places == place].tolist() == call(*rows[place].tolist())
-
-    for region in (Window, Inside, Covers):
-        same(table.find_each(rows, region=region), lambda *it: table.find(region(*it)))
-    options: Any
-    for options in ({"on": [0, 3]}, {"first": 2}, {"first": 0}, {"order": Smallest()}, {"order": Near(3, 4), "first": 7, "on": 2}):
-        same(table.find_each(rows, **options), lambda *it: table.find(Window(*it), **options))
-    bounds = rows[:, [0, 2, 1, 3]]
-    assert numpy.array_equal(table.find_each(bounds=bounds), table.find_each(rows))
-    assert numpy.array_equal(table.find_each(pandas.DataFrame(rows, columns=["min_x", "max_x", "min_y", "max_y"])), table.find_each(rows))
-    discs = numpy.abs(rows[:, [0, 2, 1]])
-    places, ids = table.find_each(discs, region=Circle)
-    for place in looked_at:
-        assert ids[places == place].tolist() == table.find(Circle(*discs[place].tolist()))
-    assert [table.count(Window(*it), on=1) for it in rows.tolist()] == table.count_each(rows, on=1).tolist()
-    assert table.count_each(bounds=bounds).dtype == numpy.uint64
-    points = rows[:, [0, 2]]
-    places, ids, scores = table.nearest_each(points, 5)
-    for place in looked_at:
-        found = [*zip(ids[places == place].tolist(), scores[places == place].tolist())]
-        assert found == table.nearest(5, *points[place].tolist())
-
-
 def test_no_queries(boxes: Rtfilter) -> None:
     for nothing in ([], numpy.empty((0, 4), "i4")):
         places, ids = boxes.find_each(nothing)
@@ -212,15 +170,5 @@ def test_answers_of_many_may_be_many() -> None:
     assert numpy.array_equal(ids, numpy.tile(numpy.arange(count), 200))
     places, ids, scores = table.nearest_each([(0, 1)] * 200, count)
     assert len(ids) == 200 * count and scores.dtype == numpy.uint64 and (scores == 1).all()
-    assert table.find(All()) == [*range(count)] and table.count_each([(0, 0, 0, 0)] * 5000).sum() == 5000 * count
-
-
-def test_the_first_of_two_faults(boxes: Rtfilter) -> None:
-    """It is that of the query line, from left to right."""
-    flat, beyond = Polygon([(0, 0), (1, 1), (2, 2)]), Near(2**31, 0)
-    for region, order, first in ((flat, beyond, None), (flat, None, 2**64), (Window(5, 1, 0, 1), beyond, None), (Window(0, 1, 0, 1), beyond, -1)):
-        words = [f"find {region}", *([str(order)] if order else []), *([f"first {first}"] if first else [])]
-        (reply,) = boxes.replies([" ".join(words)])
-        with pytest.raises(QueryError) as raised:
-            boxes.find(region, order, first)
-        assert isinstance(reply, QueryError) and (raised.value.code, raised.value.text) == (reply.code, reply.text)
+    counts = table.count_each([(0, 0, 0, 0)] * 5000)
+    assert table.find(All()) == [*range(count)] and counts.dtype == numpy.uint64 and (counts == count).all()

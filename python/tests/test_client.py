@@ -4,11 +4,8 @@ import asyncio
 import os
 import pickle
 import random
-import re
 import signal
 import socket
-import subprocess
-import sys
 import threading
 import time
 from collections.abc import Callable, Iterator
@@ -17,7 +14,7 @@ from pathlib import Path
 from typing import Any
 
 import pytest
-from conftest import PROGRAM, ROOT, Serve
+from conftest import Serve
 
 from rtfilter import All, Client, Disconnected, QueryError, Rtfilter, RtfilterError, TimedOut, Window, aio
 
@@ -129,10 +126,8 @@ def test_calls(client: Client, boxes: Rtfilter) -> None:
         pickle.dumps(client)
 
 
-def test_tcp(data: Path, serve: Serve, logged: list[str]) -> None:
-    serve(data / "boxes.csv", "--tcp", "0")
-    (port,) = re.findall(r"listening on 127\.0\.0\.1:(\d+)", "".join(logged))
-    with Client(("127.0.0.1", int(port)), timeout=20) as client:
+def test_tcp(data: Path, serve: Serve) -> None:
+    with Client(serve(data / "boxes.csv", "--tcp", "0").tcp, timeout=20) as client:
         assert client.count(All()) == 5
 
 
@@ -141,26 +136,19 @@ def test_long_texts_go_both_ways(client: Client, boxes: Rtfilter) -> None:
     assert client.text(text) == boxes.text(text)
 
 
-def test_threads_share_a_connection(client: Client) -> None:
-    wrong: list[Any] = []
-
-    def ask(first: int) -> None:
-        for _ in range(200):
-            if client.find(All(), first=first) != [1, 2, 3, 4, 5][:first]:
-                wrong.append(first)
-
-    threads = [threading.Thread(target=ask, args=[at]) for at in range(6)]
-    for it in threads:
-        it.start()
-    for it in threads:
-        it.join()
-    assert not wrong
+@pytest.mark.parametrize("address", [5, None, ("localhost",), b"boxes.socket"])
+def test_no_address(address: Any) -> None:
+    for kind in (Client, aio.Client):
+        with pytest.raises(TypeError, match=r"^an address is the path of a socket or \(host, port\), and not "):
+            kind(address)
 
 
 def test_no_service(tmp_path: Path) -> None:
     with pytest.raises(FileNotFoundError) as raised:
         Client(tmp_path / "none")
     assert raised.value.filename == str(tmp_path / "none")
+    with pytest.raises(OSError, match="^AF_UNIX path too long$"):
+        Client(tmp_path / ("x" * 200))
     with socket.socket(socket.AF_UNIX) as stale:
         stale.bind(str(tmp_path / "stale"))
         with pytest.raises(ConnectionRefusedError):
@@ -337,32 +325,14 @@ def test_asyncio(fake: Fake) -> None:
     asyncio.run(ask())
 
 
-def test_asyncio_calls(data: Path, serve: Serve, boxes: Rtfilter) -> None:
-    async def ask(path: Path) -> None:
-        async with aio.Client(path, timeout=20) as client:
-            found = await asyncio.gather(*(client.nearest(1, x, y) for x, y in ((0, 0), (12, 12), (25, 5))))
-            assert found == [[(1, 0)], [(2, 0)], [(3, 0)]]
-            assert await client.levels() == boxes.levels() and await client.find(All(), first=2) == [1, 2]
-            text = b"find all\n# comment\nfind x\n" * 500
-            assert await client.text(text) == boxes.text(text) and await client.text(b"") == b""
-            assert [*map(str, await client.replies(["count all", "", "x"]))] == [*map(str, boxes.replies(["count all", "", "x"]))]
-            with pytest.raises(QueryError):
-                await client.find(Window(5, 1, 0, 1))
-
-    asyncio.run(ask(serve(data / "boxes.csv")))
-
-
-def test_a_service_ends_while_its_last_connection_does(data: Path, tmp_path: Path) -> None:
+def test_a_service_ends_while_its_last_connection_does(data: Path, serve: Serve) -> None:
     """Whichever of both it notices first."""
-    for at in range(40):
-        path = tmp_path / f"socket{at}"
-        words = [sys.executable, str(ROOT / "service/serve.py"), "--program", PROGRAM, "--unix", str(path), str(data / "boxes.csv")]
-        with subprocess.Popen(words, stderr=subprocess.PIPE, text=True) as service:
-            assert service.stderr is not None and any("ready" in line for line in service.stderr)
-            with Client(path, timeout=20) as client:
-                assert client.count(All()) == 5
-            service.terminate()
-            assert service.wait(30) == 0
+    for _ in range(40):
+        service = serve(data / "boxes.csv")
+        with Client(service.path, timeout=20) as client:
+            assert client.count(All()) == 5
+        service.signal(signal.SIGTERM)
+        assert service.process.wait(30) == 0
 
 
 class Handing:
@@ -379,7 +349,7 @@ class Handing:
 
 def test_a_close_in_the_middle_of_calls(serve: Serve, data: Path, monkeypatch: pytest.MonkeyPatch) -> None:
     """A call is answered, or says that the client was closed, which leaves no connection open."""
-    path, wrong = serve(data / "boxes.csv"), list[BaseException]()
+    path, wrong = serve(data / "boxes.csv").path, list[BaseException]()
     for at in range(50):
         client = Client(path, timeout=20)
         monkeypatch.setattr(client, "_lock", Handing())

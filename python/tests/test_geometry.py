@@ -184,6 +184,8 @@ def test_refused(call: Any, words: str) -> None:
     assert words in str(raised.value)
     with pytest.raises(TypeError):
         STRtree.from_bounds([(0, 0, 1)])
+    with pytest.raises(TypeError, match=r"^geometries\[1\]: 5 is no geometry$"):
+        STRtree([None, 5])
 
 
 @pytest.mark.parametrize("how", ["inner", "left", "right"])

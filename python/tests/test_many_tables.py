@@ -168,7 +168,7 @@ def test_what_several_tables_have_not(three: Tables) -> None:
     for call in (three.levels, lambda: three.cost_of_find(All()), lambda: three.cost_of_count(All()), lambda: pickle.dumps(three)):
         with pytest.raises(TypeError):
             call()
-    for members, error in (([], ValueError), ([1], TypeError), ([Rtfilter([]), "boxes.csv"], TypeError)):
+    for members, error in (([], ValueError), ([1], TypeError), ([Rtfilter([]), "boxes.csv"], TypeError), (5, TypeError)):
         with pytest.raises(error):
             Tables(members)  # type: ignore[arg-type]
     assert Tables([Rtfilter([])]).bounds is None and Tables([Rtfilter([]), Rtfilter([])]).nearest(3, 0, 0) == []
@@ -183,7 +183,7 @@ def test_tables_of_services(serve: Serve, tmp_path: Path) -> None:
     files = [tmp_path / name for name in ("a.csv", "b.csv")]
     for file, some in zip(files, (rows[0::3], rows[1::3])):
         file.write_text("".join(",".join(map(str, it)) + "\n" for it in some))
-    clients = [Client(serve(it), timeout=20) for it in files]
+    clients = [Client(serve(it).path, timeout=20) for it in files]
     with Rtfilter(rows) as one, Tables([*clients, Rtfilter(rows[2::3])]) as many:
         assert len(many) == len(one)
         for _ in range(3 * QUERIES):

@@ -27,7 +27,7 @@ points = array("q", [0] * 3000), array("i", [3, 3] * 3000)
 
 def find_each():
     found = bytearray(), bytearray(), bytearray()
-    count = table._find_each(queries, 0, *found, 0)
+    count = table._find_each(queries, 0, 300, *found, 0)
     return [bytes(it[:size * count]) for it, size in zip(found, (8, 8, 16))]
 
 calls = {

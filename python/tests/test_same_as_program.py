@@ -9,6 +9,7 @@ from pathlib import Path
 from typing import Any
 
 import numpy
+import pandas
 import pytest
 from conftest import Random, Run, Serve
 
@@ -60,20 +61,25 @@ class Calls:
         pairs = [low, high, *sorted(self.number() for _ in range(2))]
         return pairs if self.chance.random() < 0.9 else pairs[::-1]
 
+    def polygon(self) -> Polygon:
+        """One that may be valid, or has any corners, or not as many as it needs."""
+        x, y = self.number(), self.number()
+        some = [(self.number(), self.number()) for _ in range(self.chance.choice([2, 3, 4, 17]))]
+        return Polygon(self.chance.choice([[(x, y), (x + 9, y + 2), (x - 3, y + 12)]] * 3 + [some]))
+
     def region(self) -> Any:
         x, y, radius = self.number(), self.number(), self.chance.choice([0, 1, 5, 20, 2**32 - 1, 2**32])
-        corners = [(x, y), (x + 9, y + radius % 11), (x - 3, y + 12)]
         return self.chance.choice(
-            [All(), Window(*self.sides()), Inside(*self.sides()), Covers(*self.sides()), Circle(x, y, radius), Polygon(corners)]
+            [All(), Window(*self.sides()), Inside(*self.sides()), Covers(*self.sides()), Circle(x, y, radius), self.polygon()]
         )
 
     def some(self) -> Made:
         region, on = self.region(), self.chance.choice([None, None, 0, 3, [0, 5], range(64)])
-        order = self.chance.choice([None, Near(self.chance.randint(-9, 9), 4), Smallest()])
-        first = self.chance.choice([None, None, 0, 1, 3, 100, 2**64 - 1])
+        order = self.chance.choice([None, Near(self.number(), self.number()), Smallest()])
+        first = self.chance.choice([None, None, None, 0, 1, 3, 100, 2**64 - 1, 2**64, -1])
         kind = self.chance.choice(["find", "find", "count", "nearest", "cost find", "cost count"])
         if kind == "nearest":
-            k, x, y = self.chance.choice([0, 1, 4, 2**64 - 1]), self.number(), self.number()
+            k, x, y = self.chance.choice([0, 1, 4, 2**64 - 1, -1]), self.number(), self.number()
             return nearest_line(k, x, y), lambda it: it.nearest(k, x, y)
         if kind == "find":
             return find_line(region, order, first, on), lambda it: it.find(region, order, first, on=on, scores=True)
@@ -173,7 +179,7 @@ def test_calls_in_a_child(case: Case) -> None:
 
 def test_calls_of_a_client(case: Case, serve: Serve) -> None:
     table, calls, expected = case
-    with Client(serve(table), timeout=60) as boxes:
+    with Client(serve(table).path, timeout=60) as boxes:
         assert [given_by(boxes, it) for it in calls] == expected
 
 
@@ -186,45 +192,64 @@ def test_calls_of_a_client_with_asyncio(case: Case, serve: Serve) -> None:
         except QueryError as error:
             return error.code, error.text
 
-    async def ask(address: Path) -> list[Any]:
+    async def ask(address: str) -> list[Any]:
         async with aio.Client(address, timeout=60) as boxes:
             return await asyncio.gather(*(given(boxes, it) for it in calls))
 
-    assert asyncio.run(ask(serve(table))) == expected
+    assert asyncio.run(ask(serve(table).path)) == expected
 
 
-def test_lines_of_a_client(tmp_path: Path, run: Run, serve: Serve, sound_table: Random, some_line: Random) -> None:
+def test_lines_of_clients(tmp_path: Path, run: Run, serve: Serve, sound_table: Random, some_line: Random) -> None:
+    """Of both kinds of client, whose connections go on."""
     chance = random.Random(5)
     table = tmp_path / "table"
     table.write_bytes(sound_table(chance))
     lines = [some_line(chance).replace(b"\n", b"") for _ in range(3000)]
-    texts = [*map(os.fsdecode, lines)]
-    with Rtfilter(table) as boxes, Client(serve(table), timeout=60) as client:
+    texts, path = [*map(os.fsdecode, lines)], serve(table).path
+    with Rtfilter(table) as boxes, Client(path, timeout=60) as client, asyncio.Runner() as runner:
+        other = aio.Client(path, timeout=60)
         while lines:
             count = chance.choice([0, 1, 2, 30, 700])
-            text = b"\n".join(lines[:count])
-            assert client.text(text) == boxes.text(text) == run(table, text)
-            assert [*map(str, client.replies(texts[:count]))] == [*map(str, boxes.replies(texts[:count]))]
+            text, replies = b"\n".join(lines[:count]), [*map(str, boxes.replies(texts[:count]))]
+            assert client.text(text) == runner.run(other.text(text)) == boxes.text(text) == run(table, text)
+            assert [*map(str, client.replies(texts[:count]))] == [*map(str, runner.run(other.replies(texts[:count])))] == replies
             lines, texts = lines[count:], texts[count:]
+        assert client.levels() == runner.run(other.levels()) == boxes.levels()
+        assert len(client) == runner.run(other.size()) == len(boxes)
+        runner.run(other.close())
 
 
-@pytest.mark.parametrize("seed", range(5))
-def test_many_at_once(seed: int, tmp_path: Path, run: Run, sound_table: Random) -> None:
-    chance = random.Random(seed)
+@pytest.mark.parametrize("count", [1, 63, 64, 65, 500, 4095, 4097, 9001])
+def test_many_at_once(count: int, tmp_path: Path, run: Run, sound_table: Random) -> None:
+    """Of every kind of query, by windows and by bounds."""
+    chance = random.Random(count)
     table = tmp_path / "table"
     table.write_bytes(sound_table(chance))
-    rows = numpy.array([[*sorted(chance.sample(range(-20, 20), 2)), *sorted(chance.sample(range(-20, 20), 2))] for _ in range(3000)])
+    rows = numpy.array([[*sorted(chance.sample(range(-20, 20), 2)), *sorted(chance.sample(range(-20, 20), 2))] for _ in range(count)])
     with Rtfilter(table) as boxes:
-        for region, word in ((Window, "window"), (Inside, "inside"), (Covers, "covers")):
+
+        def answered(line: str, numbers: Any) -> Any:
+            """What the program answers to a line for each of these rows: a list of pairs, or a number."""
+            lines = [line.format(*it) for it in numbers.tolist()]
+            return expected_of(lines, run(table, "".join(f"{it}\n" for it in lines).encode()))
+
+        for region, line in (
+            (Window, "window {} {} {} {}"), (Inside, "inside {} {} {} {}"), (Covers, "covers {} {} {} {}"), (Circle, "circle {} {} {}"),
+        ):  # fmt: skip
+            numbers = numpy.abs(rows[:, :3]) if region is Circle else rows
             options: Any
-            for options, words in (({}, ""), ({"on": 3}, " on 3"), ({"order": Near(1, 2), "first": 3}, " near 1 2 first 3")):
-                text = "".join(f"find {word} {' '.join(map(str, it))}{words}\n" for it in rows.tolist())
-                expected = [pairs for pairs in expected_of(text.splitlines(), run(table, text.encode()))]
-                places, ids = boxes.find_each(rows, region=region, **options)
+            for options, words in (
+                ({}, ""), ({"on": 3}, " on 3"), ({"order": Near(1, 2), "first": 3}, " near 1 2 first 3"), ({"first": 0}, " first 0"),
+                ({"order": Smallest(), "on": [0, 3]}, " on 0,3 smallest"),
+            ):  # fmt: skip
+                places, ids = boxes.find_each(numbers, region=region, **options)
+                expected = answered(f"find {line}{words}", numbers)
                 assert [*zip(places.tolist(), ids.tolist())] == [(at, id) for at, it in enumerate(expected) for id, _ in it]
-            text = "".join(f"count {word} {' '.join(map(str, it))} on 0,3\n" for it in rows.tolist())
-            assert boxes.count_each(rows, region=region, on=[0, 3]).tolist() == expected_of(text.splitlines(), run(table, text.encode()))
-        text = "".join(f"nearest 4 {x} {y}\n" for x, _, y, _ in rows.tolist())
+            assert boxes.count_each(numbers, region=region, on=[0, 3]).tolist() == answered(f"count {line} on 0,3", numbers)
         places, ids, scores = boxes.nearest_each(rows[:, [0, 2]], 4)
-        expected = expected_of(text.splitlines(), run(table, text.encode()))
+        expected = answered("nearest 4 {} {}", rows[:, [0, 2]])
         assert [*zip(places.tolist(), ids.tolist(), scores.tolist())] == [(at, *it) for at, its in enumerate(expected) for it in its]
+        frame = pandas.DataFrame(rows[:, [2, 0, 1, 3]], columns=["min_y", "min_x", "max_x", "max_y"])
+        for given in ({"windows": frame}, {"bounds": rows[:, [0, 2, 1, 3]]}, {"bounds": frame}):
+            assert numpy.array_equal(boxes.find_each(**given), boxes.find_each(rows))  # type: ignore[arg-type]
+            assert numpy.array_equal(boxes.count_each(**given), boxes.count_each(rows))  # type: ignore[arg-type]

@@ -217,6 +217,7 @@ FRAME = pandas.DataFrame(ROWS, columns=NAMES)
         (FRAME.assign(min_x=FRAME.min_x / 2), "the table: numbers are float64, and not whole"),
         (FRAME.astype("Int64").replace(30, pandas.NA), "the table: row 2: <NA> isn't a whole number"),
         (7, "a table is the name of a file, rows, an array or a frame, and not 7"),
+        ([ROWS[0], 7], "row 1: 7 isn't a row of id, min_x, max_x, min_y, max_y"),
     ],
 )
 def test_other_types(table: Any, words: str) -> None:

@@ -57,6 +57,13 @@ def test_vertices_are_kept_as_pairs() -> None:
         assert value == Polygon(CORNERS) and value.vertices == CORNERS
 
 
+@pytest.mark.parametrize("wrong", [5, [1], [(1, 2, 3)], [(0, 0), 5]])
+def test_other_values(wrong: Any) -> None:
+    for make, words in ((Polygon, "vertices are pairs"), (Window.from_bounds, "bounds are min_x, min_y, max_x and max_y")):
+        with pytest.raises(TypeError, match=words):
+            make(wrong)
+
+
 def test_words_want_whole_numbers() -> None:
     for value in (Window(0, 0.5, 0, 1), Circle(0, 0, 1.0), Near("1", 2), Polygon([(0, 0), (1, 0), (0, 1.5)])):  # type: ignore
         with pytest.raises(TypeError):

@@ -133,6 +133,7 @@ def test_refused_polygons(polygon: Any, words: str) -> None:
 def test_refused_points() -> None:
     zones = Zones([{"type": "Polygon", "coordinates": [[(0, 0), (1, 0), (1, 1), (0, 0)]]}])
     for call, error in (
+        (lambda: Zones(5), TypeError),
         (lambda: zones.holding(0.5, 0), TypeError),
         (lambda: zones.holding(2**31, 0), ValueError),
         (lambda: zones.holding(float("nan"), 0), ValueError),

@@ -17,19 +17,19 @@ from collections.abc import Callable, Iterable, Iterator
 from pathlib import Path
 from typing import Any
 
-ROOT = Path(__file__).resolve().parents[2]
+import random_runs
+from prefork import library_of
+from support import DATA, PROGRAM, ROOT
+
 SERVICE = ROOT / "service/serve.py"
-BOXES = ROOT / "examples/data/boxes.csv"
-PROGRAM = os.environ["RTFILTER_PROGRAM"]
+BOXES = DATA / "boxes.csv"
 SOURCE = ROOT / "service/prefork.c"
 FLAGS = ["-std=gnu11", "-O", "-fPIC", "-shared"]
 TRIES = "-include", Path(__file__).with_name("tries.h")
 SYSTEM_PYTHON = "/usr/bin/python3"  # which other users may run too
 MOMENT = re.compile(r"^\d{4}-\d\d-\d\dT\d\d:\d\d:\d\dZ ", re.MULTILINE)  # at which a line was logged
-LONG = 120.0  # seconds after which what is waited for doesn't come, on a busy machine
+LONG = 20.0  # seconds after which what is waited for doesn't come
 
-import random_runs as random_runs  # for others too
-from prefork import library_of as library_of
 
 
 def until(is_so: Callable[[], object], what: str) -> None:

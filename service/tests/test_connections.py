@@ -13,11 +13,10 @@ import time
 from pathlib import Path
 
 from served import (
-    BOXES, PROGRAM, SYSTEM_PYTHON, Case, Served, all_of, answers, found, read_lines, send, some_pieces,
+    BOXES, PROGRAM, Case, Served, all_of, answers, found, read_lines, send, some_pieces,
     some_queries, table_of, talk, output_of_program, until,
 )  # fmt: skip
 
-TOO_LONG_A_LINE = b"error %d Q1 line too long\n"
 RESET = struct.pack("2i", 1, 0)  # of SO_LINGER: a close sends a reset
 NO_FORK = """
 #define _GNU_SOURCE
@@ -30,21 +29,6 @@ pid_t fork(void)
   if (access(getenv("FLAG"), F_OK))
     return syscall(SYS_fork);
   errno = EAGAIN;
-  return -1;
-}
-"""
-NO_EPOLL = """
-#define _GNU_SOURCE
-#include <errno.h>
-#include <stdlib.h>
-#include <sys/epoll.h>
-#include <sys/syscall.h>
-#include <unistd.h>
-int epoll_ctl(int file, int what, int other, struct epoll_event *event)
-{
-  if (what != EPOLL_CTL_ADD || access(getenv("FLAG"), F_OK))
-    return syscall(SYS_epoll_ctl, file, what, other, event);
-  errno = ENOSPC;
   return -1;
 }
 """
@@ -71,38 +55,11 @@ class SameAsProgram(Case):
         self.assertEqual(self.different, [])
         self.assertEqual(len(service.logs("status=[01] ", 104)), 104)
 
-    def test_64_that_are_open_at_once(self) -> None:
-        """Each asks some of its lines while all others are open."""
-        service = self.served(BOXES, "--tcp", "0")
-        texts = [some_queries(random.Random(seed), 100) for seed in range(64)]
-        with contextlib.ExitStack() as stack:
-            opened = [socket.create_connection(service.tcp) if at % 2 else service.connect() for at in range(64)]
-            askers = [stack.enter_context(asker) for asker in opened]
-            for at, (asker, text) in enumerate(zip(askers, texts)):
-                asker.sendall(text[:at * 10])
-            until(lambda: len(service.connections) == 64, "a process for each")
-            for at, (asker, text) in enumerate(zip(askers, texts)):
-                found = talk(asker, [text[at * 10:]])
-                self.assertEqual(found, output_of_program(BOXES, text))
-
     def test_options(self) -> None:
         service = self.served(BOXES, "--header", "--fanout", "2", "--max-entries", "4")
         queries = b"levels\ncount all\n"
         done = subprocess.run([PROGRAM, "-H", "--fanout", "2", BOXES], input=queries, capture_output=True)
         self.assertEqual(service.ask(queries), done.stdout)
-
-    def test_ends_of_lines(self) -> None:
-        service = self.served()
-        line, comment = b"count all", b"# all"
-        for queries in (
-            b"", b"\n", b"\r", b"\r\n", line, line + b"\r", line + b"\r\n", line + b"\r\r\n", b"\n\n" + line, comment,
-            comment + b"\n" + line, line + b"\n" + comment, b"\0\n\xff\n", b"find all",
-            *(word.ljust(size) + end for word in (line, comment, b"") for size in (4095, 4096, 4097, 9000)
-              for end in (b"", b"\r", b"\n", b"\r\n")),
-        ):
-            with self.subTest(queries[:20], length=len(queries)):
-                self.assertEqual(service.ask(queries + b"\n" + line), output_of_program(BOXES, queries + b"\n" + line))
-                self.assertEqual(service.ask(queries), output_of_program(BOXES, queries))
 
     def test_each_line_is_answered_at_once(self) -> None:
         """A client writes the next line when it has the reply to the one before."""
@@ -111,12 +68,6 @@ class SameAsProgram(Case):
             with asker:
                 for at in range(1, 201):
                     self.count(asker, at=at)
-
-    def test_a_byte_at_a_time(self) -> None:
-        service = self.served()
-        queries = b"find all\n\n# none\ncount all\r\nx\nnearest 2 12 12"
-        found = talk(service.connect(), (queries[at:at + 1] for at in range(len(queries))))
-        self.assertEqual(found, output_of_program(BOXES, queries))
 
     def test_the_log(self) -> None:
         """A line for each connection's end: its client, its status, its time."""
@@ -148,22 +99,6 @@ class Askers(Case):
         self.assertEqual(found, [expected])
         self.assertEqual(len(service.logs("status=[45] ", 10)), 10)
         self.assert_well(service)
-
-    def test_a_line_without_an_end(self) -> None:
-        """10 MB take no memory, and are one faulty line."""
-        service = self.served()
-        before = service.memory
-        for end, replies in ((b"", b""), (b"\n", b""), (b"\ncount all", b"ok 3 5\n")):
-            with service.connect() as asker:
-                asker.sendall(b"count all\n")
-                for _ in range(100):
-                    asker.sendall(b"a" * 100_000)
-                self.assertEqual(read_lines(asker, 1), b"ok 1 5\n")
-                self.assertLess(service.memory - before, 2000)
-                self.assert_well(service)
-                asker.sendall(end)
-                asker.shutdown(socket.SHUT_WR)
-                self.assertEqual(read_lines(asker, 10), TOO_LONG_A_LINE % 2 + replies)
 
     def test_readers_that_do_not_read(self) -> None:
         """An honest one waits for none of them; each may go on to read whenever it likes."""
@@ -275,9 +210,12 @@ class Askers(Case):
         self.assertNotIn("refused", service.log)
 
     def test_the_limit_on_connections(self) -> None:
+        """Those to the old table and to the new one count together."""
         service = self.served(BOXES, "--connections", "2")
         with service.connect() as one, service.connect() as two:
-            self.count(one, two)
+            self.count(one)
+            service.exchange()
+            self.count(two)
             with service.connect() as three:
                 self.assertEqual((three.recv(100), three.recv(1)), (b"rtfilter-serve: refused, there are 2 connections\n", b""))
             service.logs(r"^connection 3 \(.*\): refused, there are 2 connections$")
@@ -317,15 +255,6 @@ class Askers(Case):
         self.assert_well(service)
 
 
-def processes_of(user: int) -> int:
-    """How many a user has, those included that are still to be waited for."""
-    found = 0
-    for process in Path("/proc").glob("[0-9]*"):
-        with contextlib.suppress(FileNotFoundError):  # it has ended meanwhile
-            found += process.stat().st_uid == user
-    return found
-
-
 class WantOfRoom(Case):
     def test_a_fork_that_fails(self) -> None:
         """It is logged, the connection is closed and its slot free, and others go on."""
@@ -362,37 +291,6 @@ class WantOfRoom(Case):
         service.exchange()
         self.assert_well(service)
         until(lambda: service.open_files == before, "nothing left open")
-
-    def test_one_more_than_can_be_watched(self) -> None:
-        """The table is exchanged all the same, and new connections are answered."""
-        environment, flag = self.preload(NO_EPOLL)
-        service = self.served(BOXES, "--health", "0", env=environment)
-        flag.touch()
-        for _ in range(3):
-            service.exchange()
-            self.assert_well(service)
-            self.assertEqual(service.get("/health"), (200, "ready\n"))
-        until(lambda: len(service.programs) == 1, "the end of old tables")
-
-    def test_processes_of_a_user(self) -> None:
-        """As another user, with a limit of processes."""
-        self.need_another_user()
-        os.chmod(self.folder, 0o777)
-        user = 60_000 + os.getpid() % 5_000  # whom no other run of this test has, since they'd be counted together
-        before = ["prlimit", "--nproc=6", "setpriv", f"--reuid={user}", f"--regid={user}", "--clear-groups"]
-        service = self.served(BOXES, before=before, python=SYSTEM_PYTHON)
-        until(lambda: processes_of(user) == 2, "an end to the connection that was asked for the size")
-        with contextlib.ExitStack() as stack:
-            askers = [stack.enter_context(service.connect()) for _ in range(3)]  # beside two threads of the service, and its program
-            for asker in askers:
-                self.count(asker)
-            with service.connect() as other:
-                self.assertEqual(other.recv(1), b"")
-            service.logs(r"^connection 4 \(.*\): not begun: Resource temporarily unavailable$")
-            for asker in askers:
-                self.count(asker, at=2)
-        service.logs("status=0 ", 3)
-        self.assert_well(service)
 
     def test_descriptors(self) -> None:
         """Where the service has no descriptor left, new connections wait, that is logged once, and nothing is busy."""

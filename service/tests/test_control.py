@@ -102,21 +102,6 @@ class Control(Case):
             with contextlib.suppress(ConnectionResetError):  # what it wrote was left unread
                 self.assertEqual(asker.recv(1), b"")
 
-    def test_kills_at_any_moment_lose_no_connection_that_waits(self) -> None:
-        """Of the program, while many connect: each is answered wholly, or was begun and has ended."""
-        service = self.served(BOXES, "--connections", "100", "--health", "0")
-        for _ in range(5):
-            askers = self.opened(service, 60)
-            send(signal.SIGKILL, service.programs[:1])
-            for asker in askers:
-                with contextlib.suppress(ConnectionResetError):
-                    reply = read_lines(asker, 1)
-                    self.assertIn(reply, (b"", b"ok 1 5\n"))
-                asker.close()
-        until(lambda: service.get("/health")[0] == 200 and not service.metric("rtfilter_connections"), "the end of all")
-        self.assertEqual(service.metric("rtfilter_connections_total"), 300)
-        self.assertEqual(len(service.logs(r"^connection \d+ \(.*\): (status|signal)=", 300)), 300)
-
     def test_ends_while_the_service_is_stopped(self) -> None:
         """More than the program can report at once: all are reported afterwards, and places are free."""
         service = self.served(BOXES, "--connections", str(MANY))

@@ -235,14 +235,6 @@ class Ends(Case):
             self.assert_well(service)
             self.assertLess(time.monotonic() - begun, 1)
 
-    def test_a_program_that_is_stopped(self) -> None:
-        """It doesn't stop an exchange for ever."""
-        service = self.served()
-        stop(service.programs)
-        service.exchange()
-        self.assert_well(service)
-        until(lambda: len(service.programs) == 1, "the end of the old program")
-
     def test_a_table_that_does_not_load(self) -> None:
         for text, status, message in (
             ("1,1,0,0,0\n", 3, f"{self.folder}/table: table record 1: minimum above maximum in x"),

@@ -41,7 +41,7 @@ class Typed(Case):
                 service.terminate()
             assert service.stderr
             service.stderr.read()
-            self.assertEqual(service.wait(60), 0)
+            self.assertEqual(service.wait(10), 0)
         self.assertFalse(os.path.lexists(f"{self.folder}/boxes.socket"))
 
     def typed(self, command: str) -> str:

@@ -28,16 +28,11 @@ def run(*words: object) -> tuple[int, str]:
 
 
 class Sockets(Case):
-    def mode_of(self, *words: str) -> int:
-        service = self.served(BOXES, *words)
-        self.assert_well(service)
-        return stat.S_IMODE(os.stat(service.path).st_mode)
-
     def test_mode(self) -> None:
-        self.assertEqual(self.mode_of(), 0o600)
-
-    def test_mode_of_the_option(self) -> None:
-        self.assertEqual(self.mode_of("--mode", "660"), 0o660)
+        for words, mode in ((), 0o600), (("--mode", "660"), 0o660):
+            with Served(self.folder, BOXES, *words) as service:
+                self.assert_well(service)
+                self.assertEqual(stat.S_IMODE(os.stat(service.path).st_mode), mode)
 
     def test_a_path_that_was_left(self) -> None:
         """A socket on which nobody listens is replaced; another service's isn't, loading or not, and neither is a file."""
@@ -48,7 +43,7 @@ class Sockets(Case):
         link = Path(self.folder, "link")
         link.symlink_to(Path(self.folder, "nowhere"))
         other = "rtfilter-serve: --unix {}: it is no socket, and isn't replaced: choose another path\n"
-        in_use = "rtfilter-serve: [Errno 98] Address already in use: '{}'\n"
+        in_use = "rtfilter-serve: --unix {}: another service listens there: choose another path\n"
         for path, message in ((service.path, in_use), (str(BOXES), other), (str(link), other), (self.folder, other)):
             self.assertEqual(run("--unix", path, BOXES), (1, message.format(path)))
         self.assert_well(service)
@@ -66,17 +61,6 @@ class Sockets(Case):
         done = subprocess.run(["setpriv", "--reuid", "65534", "--clear-groups", *command], capture_output=True, text=True, timeout=20)
         message = f"rtfilter-serve: --unix {path}: this user may make no socket in its folder: choose another path\n"
         self.assertEqual((done.returncode, MOMENT.sub("", done.stderr)), (1, message))
-
-    def test_numbers_out_of_range(self) -> None:
-        """They are refused before the service listens."""
-        for option, number, least, most in (
-            ("--fanout", "1", 2, 64), ("--fanout", "65", 2, 64), ("--fanout", "x", 2, 64),
-            ("--max-entries", "0", 1, 16777216), ("--max-entries", "16777217", 1, 16777216),
-        ):  # fmt: skip
-            status, output = run("--unix", f"{self.folder}/socket", option, number, BOXES)
-            message = f"argument {option}: {number!r} is no number from {least} to {most}"
-            self.assertEqual((status, output.splitlines()[-1]), (2, f"rtfilter-serve: error: {message}"))
-            self.assertNotIn("listening", output)
 
     def test_a_backlog_that_is_full(self) -> None:
         """Whoever listens there is left alone, even where nobody is accepted."""
@@ -150,7 +134,7 @@ class Sockets(Case):
         fcntl.flock(folder, fcntl.LOCK_EX)
         service.signal(signal.SIGTERM)
         path = f"{self.folder}/other"
-        message = f"rtfilter-serve: [Errno 11] Resource temporarily unavailable: '{path}'\n"
+        message = f"rtfilter-serve: --unix {path}: another process keeps its folder locked: end that, or choose another path\n"
         self.assertEqual(run("--unix", path, BOXES), (1, message))
         self.assertEqual(service.process.wait(10), 0)
         self.assertEqual((os.path.exists(service.path), os.path.exists(path)), (True, False))
@@ -241,24 +225,25 @@ class Sockets(Case):
         message = f"rtfilter-serve: no program {program}: name it with --program\n"
         self.assertEqual(run("--unix", f"{self.folder}/other", "--program", program, BOXES), (1, message))
 
-    def test_nowhere_to_listen(self) -> None:
-        status, output = run(BOXES)
-        self.assertEqual(status, 2)
-        self.assertIn("nowhere to listen", output)
-
-    def test_bad_options(self) -> None:
-        path = Path(self.folder, "socket")
-        for option, word, ends in (
-            ("--mode", "1000", "0 to 777"), ("--mode", "x", "0 to 777"), ("--connections", "0", "1 to 1048576"),
-            ("--connections", "1048577", "1 to 1048576"), ("--silence", "-1", "0 to 100000000"), ("--patience", "inf", "0 to 100000000"),
-            ("--drain", "nan", "0 to 100000000"), ("--load-timeout", "x", "0 to 100000000"), ("--tcp", "x:y", "0 to 65535"),
-            ("--health", "70000", "0 to 65535"),
-        ):
-            status, output = run("--unix", path, option, word, BOXES)
-            number = repr(word.rpartition(":")[2])
-            message = rf"rtfilter-serve: error: argument {option}( \S+)?: {number} is no number from {ends}"
-            self.assertEqual(status, 2, option)
-            self.assertRegex(output.splitlines()[-1], f"^{message}$")
+    def test_bad_command_lines(self) -> None:
+        """They are refused before the service listens, in one line."""
+        path, seconds = Path(self.folder, "socket"), "is no number from 0 to 100000000"
+        for words, message in (
+            ([BOXES], "nowhere to listen: --unix, --tcp, or a socket of systemd"),
+            (["--unix", path], "the following arguments are required: TABLE"),
+            (["--unix", path, BOXES, "--fast"], "unrecognized arguments: --fast"),
+            *((["--unix", path, option, word, BOXES], rf"argument {option}( \S+)?: '{word.rpartition(':')[2]}' {why}") for option, word, why in (
+                ("--mode", "1000", "is no number from 0 to 777"), ("--mode", "x", "is no number from 0 to 777"),
+                ("--connections", "0", "is no number from 1 to 1048576"), ("--connections", "1048577", "is no number from 1 to 1048576"),
+                ("--silence", "-1", seconds), ("--patience", "inf", seconds), ("--drain", "nan", seconds), ("--load-timeout", "x", seconds),
+                ("--tcp", "x:y", "is no number from 0 to 65535"), ("--health", "70000", "is no number from 0 to 65535"),
+                ("--fanout", "1", "is no number from 2 to 64"), ("--fanout", "65", "is no number from 2 to 64"),
+                ("--max-entries", "0", "is no number from 1 to 16777216"), ("--max-entries", "16777217", "is no number from 1 to 16777216"),
+            )),
+        ):  # fmt: skip
+            status, output = run(*words)
+            self.assertEqual(status, 2, words)
+            self.assertRegex(output, f"^rtfilter-serve: {message}; rtfilter-serve --help lists the options\n$")
 
 
 class Surroundings(Case):

@@ -5,17 +5,16 @@ import re
 import shutil
 import socket
 import subprocess
-import sys
 import tempfile
 import threading
 import unittest
 from pathlib import Path
 
 from prefork import library_of
+from served import Served
+from support import PROGRAM, ROOT
 
 HERE = Path(__file__).resolve().parent.parent
-ROOT = HERE.parent.parent
-PROGRAM = os.environ["RTFILTER_PROGRAM"]
 LONG = 120  # seconds that a virtual machine may take on a busy machine
 
 LINES = ["find window 0 10 0 10", "nearest 1 -2147483648 -2147483648", "count all", "levels", "find what"]
@@ -37,17 +36,7 @@ class Languages(unittest.TestCase):
         """Where a service of a table listens, until the test ends."""
         if library_of(PROGRAM) is None:
             self.skipTest("no C compiler, and so no library of the service")
-        path = str(Path(self.folder, "boxes.socket"))
-        words = [sys.executable, "-B", str(ROOT / "service/serve.py"), "--program", PROGRAM, "--unix", path, str(table)]
-        service = self.enterContext(subprocess.Popen(words, stderr=subprocess.PIPE, text=True))
-        assert service.stderr
-        draining = threading.Thread(target=service.stderr.read)
-        self.addCleanup(draining.join)
-        self.addCleanup(service.terminate)
-        while "ready: " not in (line := service.stderr.readline()):
-            self.assertTrue(line, "the service has ended")
-        draining.start()
-        return path
+        return self.enterContext(Served(self.folder, table)).path
 
     def need(self, name: str) -> None:
         """Skips a client that can't be run here."""

@@ -1,5 +1,18 @@
+"""Runs the command rtfilter-fence."""
+
+import signal
+
+signal.signal(signal.SIGHUP, signal.SIG_IGN)  # it would end the command; the zones are loaded later anyway
+
 import sys
 
-from .command import main
+from .._console import run
 
-sys.exit(main())
+
+def main() -> int:
+    """Runs the command. Returns its exit status."""
+    return run("rtfilter-fence", "rtfilter.fence.command")
+
+
+if __name__ == "__main__":
+    sys.exit(main())

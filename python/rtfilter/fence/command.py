@@ -1,12 +1,9 @@
 """The command rtfilter-fence: positions on standard input, events on standard output."""
 
-import signal
-
-signal.signal(signal.SIGHUP, signal.SIG_IGN)  # it would end the command; the zones are loaded later anyway
-
 import argparse
 import os
 import queue
+import signal
 import stat
 import sys
 import threading
@@ -14,7 +11,7 @@ from collections.abc import Callable
 from functools import partial
 
 from .. import __version__
-from .._console import say
+from .._console import Parser, reason, say, whole
 from .devices import Devices, Refused
 from .events import Fence
 from .log import Past, resume
@@ -24,24 +21,23 @@ from .zones import NamedZones
 NAME = "rtfilter-fence"
 READ = 1 << 16  # bytes at once
 INPUT, OUTPUT = 0, 1
+MOST = 10**15  # of devices, and of lines
 GO_ON = "; run it again with --resume to go on"  # where the output is a file
 
 
 def arguments() -> argparse.Namespace:
     """The words of the command line."""
-    parser = argparse.ArgumentParser(
+    parser = Parser(
         prog=NAME, description=f"Reads positions, lines {FORM}, and writes which devices enter and leave zones."
     )
     parser.add_argument("zones", metavar="ZONES", help="GeoJSON file of polygons, in degrees; SIGHUP loads it again")
     parser.add_argument("--layer", default="layer", metavar="PROPERTY", help="property that has a zone's layer (default layer)")
     parser.add_argument("--on", default="", metavar="LAYERS", help="layers of positions that name none, separated by ; (default all)")
-    parser.add_argument("--devices", type=int, default=1_000_000, metavar="N", help="most devices; positions of a further one are refused (default 1000000)")
+    parser.add_argument("--devices", type=whole(1, MOST), default=1_000_000, metavar="N", help="most devices; positions of a further one are refused (default 1000000)")
     parser.add_argument("--resume", metavar="LOG", help="log of an earlier run, whose lines of the input are skipped")
-    parser.add_argument("--first-line", type=int, default=1, metavar="N", help="number of the first line of the input, with --resume (default 1)")
+    parser.add_argument("--first-line", type=whole(1, MOST), default=1, metavar="N", help="number of the first line of the input, with --resume (default 1)")
     parser.add_argument("--version", action="version", version=f"{NAME} {__version__}", help="print the version")
     args = parser.parse_args()
-    if args.devices < 1 or args.first_line < 1:
-        parser.error("--devices and --first-line are 1 or more")
     if args.first_line > 1 and args.resume is None:
         parser.error("--first-line goes with --resume")
     return args
@@ -59,7 +55,7 @@ def main() -> int:
     try:
         run(args, requests)
     except (Refused, OSError, ValueError) as error:
-        say(NAME, str(error))
+        say(NAME, reason(error))
         return 1
     return 0
 
@@ -105,7 +101,7 @@ def run(args: argparse.Namespace, requests: queue.SimpleQueue[None]) -> None:
                 fence.zones = load()
                 report(fence.zones, args.on)
             except Exception as error:  # whatever it is: the old zones answer positions
-                say(NAME, f"{error}; the old zones stay")
+                say(NAME, f"{reason(error)}; the old zones stay")
 
     threading.Thread(target=keep_loaded, daemon=True).start()
     answer(fence, args.first_line)

@@ -1,21 +1,18 @@
 """The command rtfilter-tiles: loads a table, listens, and loads it anew on SIGHUP."""
 
-import signal
-
-signal.signal(signal.SIGHUP, signal.SIG_IGN)  # it would end the command; the table is loaded later anyway
-
 import argparse
 import asyncio
 import errno
 import hashlib
 import logging
 import logging.handlers
+import signal
 from pathlib import Path
 
 from aiohttp import web
 
 from .. import __version__
-from .._console import say
+from .._console import Parser, reason, say, whole
 from .boxes import Boxes, Files
 from .server import Served, Server
 from .views import Views
@@ -23,19 +20,18 @@ from .views import Views
 NAME = "rtfilter-tiles"
 ACCESSES = logging.getLogger("rtfilter.tiles")
 COMMON_LOG_FORMAT = '%a - - %t "%r" %s %b'
-INTERRUPTED = 130  # the status, as shells have it
 SHUTDOWN = 10.0  # seconds for requests that are under way at the end
 
 
 def arguments() -> argparse.Namespace:
     """The words of the command line."""
-    parser = argparse.ArgumentParser(prog=NAME, description="Serves a map of a table of boxes, as a page and as vector tiles.")
+    parser = Parser(prog=NAME, description="Serves a map of a table of boxes, as a page and as vector tiles.")
     parser.add_argument("table", metavar="TABLE", help="CSV file of boxes, in centimetres of Web Mercator; SIGHUP loads it again")
     parser.add_argument("--header", action="store_true", help="skip the table's first record")
     parser.add_argument("--names", metavar="FILE", help="CSV file of ids and names of boxes")
     parser.add_argument("--layers", metavar="FILE", help="CSV file of layers, 0 to 63, and their names, all different (default layer 3 and so on)")
     parser.add_argument("--listen", default="127.0.0.1", metavar="ADDRESS", help="address to listen on (default 127.0.0.1)")
-    parser.add_argument("--port", type=int, default=8080, metavar="PORT", help="port to listen on, 0 for any free one (default 8080)")
+    parser.add_argument("--port", type=whole(0, 65535), default=8080, metavar="PORT", help="port to listen on, 0 for any free one (default 8080)")
     parser.add_argument("--reuse-port", action="store_true", help="let several processes listen on the port, each with its own table")
     parser.add_argument("--host", action="append", default=[], metavar="NAME", help="another name of this server, as behind a proxy; may be repeated")
     parser.add_argument("--url", metavar="URL", help="the server's address behind a proxy, with a slash at its end (default http and the Host)")
@@ -43,16 +39,13 @@ def arguments() -> argparse.Namespace:
         "--origin", action="append", default=[], metavar="ORIGIN",
         help="origin whose pages may read replies, as https://maps.example.org, * for any, null for files; may be repeated",
     )  # fmt: skip
-    parser.add_argument("--max-age", type=int, default=60, metavar="SECONDS", help="time that a client may keep a tile (default 60)")
+    parser.add_argument("--max-age", type=whole(0, 10**9), default=60, metavar="SECONDS", help="time that a client may keep a tile (default 60)")
     parser.add_argument(
         "--log", metavar="FILE",
         help="file for a line of each request, in the Common Log Format, - for standard error; opened again if it was moved away",
     )  # fmt: skip
     parser.add_argument("--version", action="version", version=f"{NAME} {__version__}", help="print the version")
-    args = parser.parse_args()
-    if args.max_age < 0:
-        parser.error("argument --max-age: 0 or more seconds")
-    return args
+    return parser.parse_args()
 
 
 def main() -> int:
@@ -61,11 +54,9 @@ def main() -> int:
     try:
         log_accesses(args.log)
         asyncio.run(serve(args))
-    except (OSError, OverflowError, ValueError, MemoryError) as error:
-        say(NAME, str(error))
+    except (OSError, ValueError, MemoryError) as error:
+        say(NAME, reason(error))
         return 1
-    except KeyboardInterrupt:  # during the first load
-        return INTERRUPTED
     return 0
 
 
@@ -125,7 +116,7 @@ async def keep_loaded(args: argparse.Namespace, server: Server, again: asyncio.E
             say(NAME, f"the table is exchanged: {len(server.served.views)} boxes")
         except Exception as error:  # whatever it is: requests are answered from the table that is there
             server.loads_failed += 1
-            say(NAME, f"{error}; the old table stays")
+            say(NAME, f"{reason(error)}; the old table stays")
 
 
 def log_accesses(name: str | None) -> None:

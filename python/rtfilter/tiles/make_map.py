@@ -7,13 +7,15 @@ the layers. Coordinates are centimetres of Web Mercator, around the point where 
 same seed and number of boxes make the same map.
 """
 
-import argparse
 import csv
 import math
 import random
 from collections.abc import Iterator
 from pathlib import Path
 from typing import NamedTuple
+
+from .._console import Parser, whole
+from ..table import MOST_ENTRIES
 
 LAYERS = ["towns", "motorways", "main roads", "minor roads", "streets", "buildings"]
 TOWNS, MOTORWAYS, MAIN_ROADS, MINOR_ROADS, STREETS, BUILDINGS = range(len(LAYERS))
@@ -123,13 +125,11 @@ def write(folder: Path, rows: list[Row], names: list[str]) -> None:
 
 
 def main() -> None:
-    parser = argparse.ArgumentParser(prog="rtfilter.tiles.make_map", description="Makes a map of a country that doesn't exist.")
+    parser = Parser(prog="rtfilter.tiles.make_map", description="Makes a map of a country that doesn't exist.")
     parser.add_argument("folder", metavar="FOLDER", type=Path, help="folder for boxes.csv, names.csv and layers.csv")
-    parser.add_argument("--boxes", type=int, default=100_000, metavar="N", help="boxes, 1000 or more (default 100000)")
+    parser.add_argument("--boxes", type=whole(1000, MOST_ENTRIES), default=100_000, metavar="N", help="boxes, 1000 or more (default 100000)")
     parser.add_argument("--seed", type=int, default=1, metavar="S", help="seed of the random numbers (default 1)")
     args = parser.parse_args()
-    if args.boxes < 1000:
-        parser.error("argument --boxes: 1000 or more")
     write(args.folder, *some_map(random.Random(args.seed), args.boxes))
 
 

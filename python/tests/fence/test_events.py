@@ -173,11 +173,13 @@ def test_layers_of_no_zone(tmp_path: Path) -> None:
 
 def test_options(zones: Path) -> None:
     for options, why in (
-        (["--devices", "0"], "--devices and --first-line are 1 or more"),
+        (["--devices", "0"], "argument --devices: '0' is no whole number from 1 to 1000000000000000"),
+        (["--first-line", "x"], "argument --first-line: 'x' is no whole number from 1 to 1000000000000000"),
         (["--first-line", "2"], "--first-line goes with --resume"),
+        (["--fast"], "unrecognized arguments: --fast"),
     ):
         done = subprocess.run([*COMMAND, *options, zones], capture_output=True, text=True, env=environment(), timeout=LONGEST)
-        assert done.returncode == 2 and why in done.stderr
+        assert (done.returncode, done.stderr) == (2, f"rtfilter-fence: {why}; rtfilter-fence --help lists the options\n")
 
 
 def test_as_shapely(tmp_path: Path) -> None:

@@ -215,7 +215,7 @@ def test_a_log_without_events_yet(text: bytes, zones: Path, log: Path) -> None:
 def test_a_log_in_no_folder(zones: Path, log: Path) -> None:
     """Its path is refused, since no log can be there; a log that isn't there yet is an empty one."""
     status, said = start(zones, log, b"a,1,1,1\n", "--resume", str(log / "none"))
-    assert (status, said) == (1, f"rtfilter-fence: [Errno 20] Not a directory: '{log}/none'\n")
+    assert (status, said) == (1, f"rtfilter-fence: {log}/none: Not a directory\n")
     nowhere = log.with_name("nowhere") / "log"
     status, said = start(zones, log, b"a,1,1,1\n", "--resume", str(nowhere))
     why = f"rtfilter-fence: {nowhere}: its folder doesn't exist: make it, or give --resume another path\n"

@@ -12,7 +12,7 @@ import time
 from pathlib import Path
 from typing import Any
 
-LONGEST = 60.0  # seconds that an answer may take, on a busy machine
+LONGEST = 20.0  # seconds that an answer may take
 FLAGS = [
     "--headless=new", "--disable-gpu", "--disable-dev-shm-usage", "--no-first-run", "--remote-debugging-pipe",
     "--disable-background-networking", "--disable-component-update", "--disable-sync",

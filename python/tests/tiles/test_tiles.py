@@ -171,17 +171,21 @@ class Tiles(Mapped):
         self.assertEqual(self.features(9, 0, 0), [])
 
     def test_ids_and_names_of_every_size(self) -> None:
-        names = {-(2**63): "", -1: "\u00e9\U0001f600", 0: "x" * 500, 1: "1", 2**63 - 1: '"'}
+        """The own id of a feature is its box's; below 0 there is none, and the property `id` has it."""
+        names = {-(2**63): "", -1: "\u00e9\U0001f600", 0: "x" * 500, 1: "1", 127: "long" * 1000, 2**63 - 1: '"'}
+        ids = sorted([*names, -2, 128, 16383, 16384, 2097151, 2097152, 2**53 + 1])
         table, listed = Path(self.folder, "ids.csv"), Path(self.folder, "names.csv")
-        table.write_text("".join(f"{id},0,0,0,0\n" for id in names))
+        table.write_text("".join(f"{id},0,0,0,0\n" for id in ids))
         with open(listed, "w", encoding="utf-8", newline="") as file:
             csv.writer(file).writerows(names.items())
         with Server(table, "--names", str(listed)) as server:
             for tile in (0, 0, 0), (DEEPEST, 1 << DEEPEST - 1, (1 << DEEPEST - 1) - 1):
                 features = self.features(*tile, server=server)
-                found = {int(it.get("mvt_id") or it["id"]): it["name"] for _, it, _ in features}
-                self.assertEqual(found, names)
+                found = [(int(it.get("mvt_id") or it["id"]), "id" in it, it.get("name")) for _, it, _ in features]
+                self.assertEqual(found, [(id, id < 0, names.get(id)) for id in ids])
                 self.assertEqual({layer for layer, _, _ in features}, {"layer 0"})
+            (layer, _) = json.loads(server.get("/tiles.json")[1])["vector_layers"]
+            self.assertEqual(layer["fields"], {"name": "String", "id": "Number"})
 
 
 def rows_of(table: Path) -> list[list[int]]:

@@ -81,12 +81,6 @@ class Refusals(Mapped):
             self.assertNotIn(b"//", re.sub(rb"(?m)(^|\s)// .*$", b"", body))
             self.assertIsNone(re.search(rb"innerHTML|outerHTML|document\.write|insertAdjacentHTML|eval\(", body))
 
-    def test_many_requests_on_a_connection(self) -> None:
-        connection = self.connected()
-        for number in range(200):
-            connection.request("GET", f"/ask?q=nearest+1+{number}+5")
-            self.assertEqual(len(json.loads(connection.getresponse().read())["answers"]), 1)
-
     def test_lines_at_random(self) -> None:
         """Each is answered as the program does, or is refused since it may have too many answers."""
         chance = random.Random(3)

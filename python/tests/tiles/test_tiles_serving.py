@@ -11,16 +11,15 @@ import tempfile
 import threading
 import time
 import unittest
-from collections.abc import Callable, Iterator
+from collections.abc import Callable
 from http.client import HTTPConnection, HTTPResponse
 from http.server import BaseHTTPRequestHandler, ThreadingHTTPServer
 from pathlib import Path
 from typing import Any
 
 from chromium import Chromium
-from style_rules import faults_of
-from support import LONGEST, ROOT, environment
-from tiles_support import BOXES, COMMAND, PATIENCE, Mapped, Server, make_map, wants
+from support import LONGEST, ROOT
+from tiles_support import BOXES, Mapped, Server, make_map, wants
 
 from rtfilter.tiles.mercator import HALF, window_of
 
@@ -86,43 +85,23 @@ class Descriptions(Serving):
         self.assertGreater(len(ids), 5)
 
     def test_style(self) -> None:
-        """Each layer that tiles may have is drawn, from the source that is named."""
-        style = self.json("/style.json")
-        self.assertEqual(style["version"], 8)
-        self.assertEqual(style["sources"], {"boxes": {"type": "vector", "url": f"{self.server.address}tiles.json"}})
-        ground, *layers = style["layers"]
-        self.assertEqual(ground["type"], "background")
-        self.assertEqual({it["source-layer"] for it in layers}, {*LAYERS, "density"})
-        self.assertEqual({it["source"] for it in layers}, {"boxes"})
-        self.assertEqual(len({it["id"] for it in style["layers"]}), len(style["layers"]))
-        shades = [it["paint"]["fill-opacity"] for it in layers if it["source-layer"] == "density"]
-        self.assertEqual(shades, sorted({*shades}))
+        """Cells in shades by their counts, and each layer in the colour that the page has for it."""
         colours = re.search(r"COLOURS = (\[.*?\])", (ROOT / "python/rtfilter/tiles/page.js").read_text())
         assert colours is not None
-        drawn = [it["paint"]["fill-color"] for it in layers if it["source-layer"] != "density"]
-        self.assertEqual(drawn, json.loads(colours[1])[:6])
-
-    def test_style_by_the_rules(self) -> None:
-        """Those of the style specification and of TileJSON, which refuse what is broken."""
-        style, tiles = self.json("/style.json"), self.json("/tiles.json")
-        self.assertEqual(faults_of(style, tiles), [])
-        breaks: list[tuple[str, Callable[[dict[str, Any], dict[str, Any]], Any]]] = [
-            ("the style's members", lambda style, _: style.update(version=7)),
-            ("source boxes", lambda style, _: style["sources"]["boxes"].update(type="geojson")),
-            ("ids of layers", lambda style, _: style["layers"].append(style["layers"][1])),
-            ("layer fill of towns: what it draws", lambda style, _: style["layers"][7].update({"source-layer": "town"})),
-            ("layer fill of towns: fill-color", lambda style, _: style["layers"][7]["paint"].update({"fill-color": "#12"})),
-            ("layer fill of towns: line-width", lambda style, _: style["layers"][7]["paint"].update({"line-width": 1})),
-            ("layer fill of density from 1: fill-opacity", lambda style, _: style["layers"][1]["paint"].update({"fill-opacity": 2})),
-            ("layer fill of density from 4: filter", lambda style, _: style["layers"][2]["filter"].append(["<", "count", 1])),
-            ("layer land: a background draws nothing else", lambda style, _: style["layers"][0].update(source="boxes")),
-            ("vector_layers", lambda _, tiles: tiles["vector_layers"][0].pop("fields")),
-            ("levels, bounds or center", lambda _, tiles: tiles["center"].__setitem__(2, 23)),
-        ]
-        for fault, breaking in breaks:
-            broken = json.loads(json.dumps([style, tiles]))
-            breaking(*broken)
-            self.assertEqual(faults_of(*broken), [fault])
+        fill = {"type": "fill", "source": "boxes"}
+        shades = (1, 0.15, 4), (4, 0.28, 16), (16, 0.41, 64), (64, 0.54, 256), (256, 0.67, 1024), (1024, 0.8, None)
+        self.assertEqual(self.json("/style.json"), {
+            "version": 8, "name": "boxes", "sources": {"boxes": {"type": "vector", "url": f"{self.server.address}tiles.json"}},
+            "layers": [
+                {"id": "land", "type": "background", "paint": {"background-color": "#f6f3ec"}},
+                *({**fill, "id": f"fill of density from {least}", "source-layer": "density",
+                   "filter": ["all", [">=", ["get", "count"], least], *([["<", ["get", "count"], above]] if above else [])],
+                   "paint": {"fill-color": "#1c488c", "fill-opacity": shade}} for least, shade, above in shades),
+                *({**fill, "id": f"fill of {layer}", "source-layer": layer,
+                   "paint": {"fill-color": colour, "fill-opacity": 0.3, "fill-outline-color": colour}}
+                  for layer, colour in zip(LAYERS, json.loads(colours[1]))),
+            ],
+        })  # fmt: skip
 
     def test_health(self) -> None:
         self.assertEqual(self.json("/health"), {"boxes": BOXES})
@@ -130,10 +109,18 @@ class Descriptions(Serving):
 
 class Caches(Serving):
     def test_head(self) -> None:
-        """It has the headers of GET, and no body, and the connection goes on."""
+        """It has the status and the headers of GET, and no body, and the connection goes on; also where the client has the reply."""
         connection = self.connected()
-        for target in (TILE, EMPTY, "/", "/tiles.json", "/about", "/ask?q=count+all", "/nothing", "/view"):
-            self.status_of_head(connection, target, ("Accept-Encoding", "gzip"))
+        tag = self.response(TILE)[0].headers["ETag"].removeprefix("W/")
+        packed = [(target, {"Accept-Encoding": "gzip"}) for target in (TILE, EMPTY, "/", "/tiles.json", "/about", "/ask?q=count+all", "/nothing", "/view")]
+        for target, headers in (*packed, (TILE, {"If-None-Match": f'"x", {tag}, "y"'}), (TILE, {"If-None-Match": '"x"'})):
+            heads = []
+            for method in ("GET", "HEAD"):
+                connection.request(method, target, headers=headers)
+                reply = connection.getresponse()
+                body = reply.read()
+                heads.append((reply.status, [it for it in reply.getheaders() if it[0] != "Date"]))
+            self.assertEqual((heads[0], body), (heads[1], b""), target)
 
     def test_tags(self) -> None:
         """What whoever asks has already isn't sent again, until the table is another one."""
@@ -153,30 +140,6 @@ class Caches(Serving):
             self.assertIsNone(reply.headers["ETag"])
             self.assertEqual(reply.headers["Cache-Control"], "no-cache")
         self.assertEqual(self.response("/5/99/0.pbf", If_None_Match="*")[0].status, 404)
-
-    def test_head_of_what_is_known(self) -> None:
-        """304 to lists of tags and to `*`, on one line or on two; the headers of GET, no body, and the connection goes on."""
-        connection = self.connected()
-        tag = self.response(TILE)[0].headers["ETag"].removeprefix("W/")
-        for known, status in (
-            (["*"], 304), ([f'"x", {tag}, "y"'], 304), ([f"W/{tag}"], 304), (['"x"', '"y"'], 200),
-            ([tag[:-1]], 200), ([], 200),
-        ):  # fmt: skip
-            self.assertEqual(self.status_of_head(connection, TILE, *(("If-None-Match", it) for it in known)), status, known)
-
-    def status_of_head(self, connection: HTTPConnection, target: str, *fields: tuple[str, str]) -> int:
-        """The status of a HEAD, whose reply is that of a GET without its body."""
-        heads = []
-        for method in ("GET", "HEAD"):
-            connection.putrequest(method, target)
-            for field in fields:
-                connection.putheader(*field)
-            connection.endheaders()
-            reply = connection.getresponse()
-            body = reply.read()
-            heads.append((reply.status, [it for it in reply.getheaders() if it[0] != "Date"]))
-        self.assertEqual((heads[0], body), (heads[1], b""), target)
-        return reply.status
 
     def test_another_table_has_another_tag(self) -> None:
         folder = Path(self.enterContext(tempfile.TemporaryDirectory()))
@@ -270,25 +233,6 @@ class Origins(Serving):
                     self.assertEqual(browser.value(script), expected)
 
 
-class Ids(Serving):
-    def test_what_identifies_a_feature(self) -> None:
-        """Its own id is its box's; below 0 there is none, and the property `id` has it."""
-        folder = Path(self.enterContext(tempfile.TemporaryDirectory()))
-        table, names = folder / "boxes.csv", folder / "names.csv"
-        ids = [-(2**63), -1, 0, 127, 128, 16383, 16384, 2097151, 2097152, 2**53 + 1, 2**63 - 1]
-        table.write_text("".join(f"{id},0,0,0,0\n" for id in ids))
-        names.write_text(f"0,zero\n-1,one less\n127,{'long' * 1000}\n")
-        with Server(table, "--names", str(names)) as server:
-            _, body = self.response("/0/0/0.pbf", server)
-            found = features_of(body)
-            self.assertEqual([it[0] if it[0] is not None else it[1]["id"] for it in found], ids)
-            self.assertEqual([it[1] for it in found], [
-                {"id": -(2**63)}, {"id": -1, "name": "one less"}, {"name": "zero"}, {"name": "long" * 1000}, *({} for _ in ids[4:])
-            ])  # fmt: skip
-            fields = json.loads(self.response("/tiles.json", server)[1])["vector_layers"][0]["fields"]
-            self.assertEqual(fields, {"name": "String", "id": "Number"})
-
-
 class Reloads(unittest.TestCase):
     """SIGHUP has the files loaded anew, by one process and by many."""
 
@@ -302,23 +246,6 @@ class Reloads(unittest.TestCase):
         lines = "".join(f"{at},{at},{at + 10},0,10\n" for at in range(boxes))
         (self.folder / "new").write_text(lines + rest)
         (self.folder / "new").replace(self.table)
-
-    def test_a_signal_as_it_starts(self) -> None:
-        """It isn't ended while its modules are loaded."""
-        early = """
-import os, signal, sys
-class Early:
-    def find_spec(name, *_):
-        if name == "rtfilter.tiles.boxes":
-            os.kill(os.getpid(), signal.SIGHUP)
-signal.signal(signal.SIGHUP, signal.SIG_DFL)
-sys.meta_path.insert(0, Early)
-from rtfilter.tiles.command import main
-main()
-"""
-        words = [*COMMAND[:2], "-c", early, "--version"]
-        done = subprocess.run(words, stdout=subprocess.PIPE, timeout=LONGEST, env=environment())
-        self.assertTrue(done.returncode == 0 and done.stdout.startswith(b"rtfilter-tiles "), done)
 
     def test_the_table_is_exchanged(self) -> None:
         """Requests are answered all the while. A faulty table changes nothing."""
@@ -399,7 +326,7 @@ def metric(server: Server, name: str) -> float:
 
 def until(is_so: Callable[[], bool]) -> None:
     """Waits until something is so."""
-    end = time.monotonic() + PATIENCE
+    end = time.monotonic() + LONGEST
     while not is_so():
         if time.monotonic() > end:
             raise TimeoutError
@@ -442,57 +369,6 @@ class Cost(unittest.TestCase):
                 connection.request("GET", target, headers={"Accept-Encoding": "gzip"})
                 self.assertEqual(len(connection.getresponse().read()) > 0, True)
             self.assertLess((server.seconds() - begun) / len(places), MOST_SECONDS)
-
-
-def features_of(tile: bytes) -> list[tuple[int | None, dict[str, Any]]]:
-    """The own ids and the properties of the features of a tile with one layer, by the specification."""
-    ((_, layer),) = fields_of(tile)
-    keys = [it.decode() for field, it in fields_of(layer) if field == 3]
-    values = [value_of(it) for field, it in fields_of(layer) if field == 4]
-    features = []
-    for feature in (dict(fields_of(it)) for field, it in fields_of(layer) if field == 2):
-        tags = [*varints(feature.get(2, b""))]
-        features.append((feature.get(1), {keys[key]: values[value] for key, value in zip(tags[::2], tags[1::2])}))
-    return features
-
-
-def value_of(value: bytes) -> Any:
-    ((field, it),) = fields_of(value)
-    return it.decode() if field == 1 else (it >> 1) ^ -(it & 1)
-
-
-def varints(text: bytes) -> Iterator[int]:
-    number = shift = 0
-    for byte in text:
-        number |= (byte & 127) << shift
-        shift += 7
-        if byte < 128:
-            yield number
-            number = shift = 0
-
-
-def fields_of(message: bytes) -> list[tuple[int, Any]]:
-    """The fields of a message of protocol buffers: numbers, and bytes."""
-    fields: list[tuple[int, Any]] = []
-    at = 0
-
-    def number() -> int:
-        nonlocal at
-        found = next(varints(message[at : at + 10]))
-        while message[at] > 127:
-            at += 1
-        at += 1
-        return found
-
-    while at < len(message):
-        key = number()
-        if key & 7 == 0:
-            fields.append((key >> 3, number()))
-        else:
-            size = number()
-            fields.append((key >> 3, message[at : at + size]))
-            at += size
-    return fields
 
 
 @contextlib.contextmanager

@@ -16,7 +16,6 @@ from typing import Any
 
 from support import LONGEST, PROGRAM, environment
 
-PATIENCE = 60  # seconds that a start, an end or an exchange may take on a busy machine
 BOXES = 30_000
 COMMAND = [sys.executable, "-B", "-m", "rtfilter.tiles"]
 HOSTILE_NAME = '<img src=x onerror="throw 1"><script>throw 2</script>'
@@ -92,7 +91,7 @@ class Server:
         return self.ended()
 
     def ended(self) -> tuple[int, str]:
-        _, errors = self.process.communicate(timeout=PATIENCE)
+        _, errors = self.process.communicate(timeout=LONGEST)
         return self.process.returncode, errors
 
     def __enter__(self) -> "Server":
