@@ -99,10 +99,11 @@ class Client(SingleCalls):
 
     def __init__(self, address: Address, timeout: float | None = None) -> None:
         self._address, self._timeout, self._process = address, timeout, os.getpid()
-        self._lock = threading.Lock()
+        # (one that knows its thread: a signal's handler may raise before `acquire` has returned that it has it)
+        self._lock = threading.RLock()
         self._caller: int | None = None  # the thread that is in a call
         self._is_closed = False
-        self._connection: Connection | None = Connection(address, Deadline(timeout))
+        self._connection: Connection | None = Connection(address, Deadline(timeout))  # None during a call
 
     def __reduce__(self) -> str:
         raise TypeError("a client can't be pickled: make one in each process")
@@ -148,9 +149,14 @@ class Client(SingleCalls):
     def close(self) -> None:
         """Closes the connection, at the end of a call that is under way. Later calls raise ValueError."""
         self._is_closed = True
-        if self._lock.acquire(blocking=False):  # else the call that has it does this
-            self._drop()
-            self._lock.release()
+        try:
+            if self._lock.acquire(blocking=False):  # else the call that has it does this
+                self._drop()
+        finally:
+            try:
+                self._lock.release()
+            except RuntimeError:  # another thread has it
+                pass
 
     def _find(self, region: Region, order: Order | None, first: int | None, on: Layers | None, scores: bool) -> list[Any]:
         answers = self._single(find_line(region, order, first, on))
@@ -162,26 +168,39 @@ class Client(SingleCalls):
 
     def _exchange(self, text: bytes, lines: int) -> tuple[bytes, int]:
         """The replies to lines, and how many lines came before them on the connection."""
-        deadline = Deadline(self._timeout)
+        deadline, caller = Deadline(self._timeout), threading.get_ident()
         self._check()
         left = deadline.left()
-        if not self._lock.acquire(timeout=-1 if left is None else left):
-            deadline.left()
-            raise TimedOut("another call took too long")
         try:
-            self._caller = threading.get_ident()
+            if not self._lock.acquire(timeout=-1 if left is None else left):
+                deadline.left()
+                raise TimedOut("another call took too long")
+            self._caller = caller
             self._check_open()
-            connection = self._connected(deadline)
-            before = connection.lines
-            return connection.exchange(text, lines, deadline), before
-        except BaseException:
-            self._drop()
-            raise
+            return self._answered(text, lines, deadline)
         finally:
-            self._caller = None
-            self._lock.release()
+            # (without a call before the lock's own, at which a signal would be handled)
+            if self._caller == caller:
+                self._caller = None
+            try:
+                self._lock.release()
+            except RuntimeError:  # another thread has it
+                pass
             if self._is_closed:
                 self.close()
+
+    def _answered(self, text: bytes, lines: int, deadline: Deadline) -> tuple[bytes, int]:
+        """The same, by the thread that has the lock. What breaks it off leaves no connection, on which replies would still come."""
+        connection = self._connected(deadline)
+        self._connection = None
+        try:
+            before = connection.lines
+            replies = connection.exchange(text, lines, deadline)
+        except BaseException:
+            connection.close()
+            raise
+        self._connection = connection
+        return replies, before
 
     def _check(self) -> None:
         if os.getpid() != self._process:

@@ -3,6 +3,7 @@
 import asyncio
 import os
 import pickle
+import random
 import signal
 import socket
 import threading
@@ -229,6 +230,33 @@ def test_broken_off_calls_close_the_connection(fake: Fake) -> None:
         with pytest.raises(KeyboardInterrupt):
             client.find(All())
         assert client.count(All()) == 7
+
+
+@pytest.mark.usefixtures("own_alarms")
+def test_calls_that_are_broken_off_anywhere(serve: Serve, data: Path) -> None:
+    """Also where the call has just taken its turn, or gives it back: it isn't lost then."""
+
+    class BrokenOff(BaseException):
+        pass
+
+    def handle(*_: object) -> None:
+        raise BrokenOff
+
+    signal.signal(signal.SIGALRM, handle)
+    chance, broken_off = random.Random(1), 0
+    with Client(serve(data / "boxes.csv", "--connections", "9000"), timeout=20) as client:
+        for at in range(8000):
+            try:
+                try:
+                    signal.setitimer(signal.ITIMER_REAL, chance.uniform(2e-5, 6e-4))
+                    client.find(All())
+                finally:
+                    signal.setitimer(signal.ITIMER_REAL, 0)
+            except BrokenOff:
+                broken_off += 1
+            if at % 50 == 49:
+                assert client.find(Window(0, 10, 0, 10)) == [1, 2]
+    assert broken_off > 1000
 
 
 @pytest.mark.usefixtures("own_alarms")
