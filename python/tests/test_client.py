@@ -244,7 +244,7 @@ def test_calls_that_are_broken_off_anywhere(serve: Serve, data: Path) -> None:
 
     signal.signal(signal.SIGALRM, handle)
     chance, broken_off = random.Random(1), 0
-    with Client(serve(data / "boxes.csv", "--connections", "9000"), timeout=20) as client:
+    with Client(serve(data / "boxes.csv", "--connections", "9000").path, timeout=20) as client:
         for at in range(8000):
             try:
                 try:
