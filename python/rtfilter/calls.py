@@ -39,15 +39,18 @@ class SingleCalls(Closable):
         on: Layers | None = None,
         scores: bool = False,
     ) -> list[Any]:
-        """The ids of the boxes that a region accepts, in order, or with `scores` pairs (id, score)."""
+        """Return the ids of the boxes that `region` accepts, by score and then id; with `scores`, pairs (id, score).
+
+        `first`: at most this many. `on`: only boxes on these layers, 0 to 63.
+        """
         return self._find(region, order, first, on, scores)
 
     def nearest(self, k: int, x: int, y: int) -> list[tuple[int, int]]:
-        """The k boxes nearest to a point: pairs of an id and the square of the distance."""
+        """Return the k boxes nearest to the point (x, y), as pairs (id, squared distance)."""
         raise NotImplementedError
 
     def count(self, region: Region, *, on: Layers | None = None) -> int:
-        """How many boxes a region accepts."""
+        """Return how many boxes `region` accepts. `on`: only boxes on these layers, 0 to 63."""
         raise NotImplementedError
 
     def _find(self, region: Region, order: Order | None, first: int | None, on: Layers | None, scores: bool) -> list[Any]:
@@ -67,10 +70,10 @@ class BulkCalls:
         first: int | None = None,
         on: Layers | None = None,
     ) -> "tuple[NDArray[Any], NDArray[Any]]":
-        """The places of many windows, from 0, and the ids of the boxes that each accepts, as two arrays.
+        """Return two int64 arrays with a pair for each answer: the position of its window, from 0, and the id.
 
-        `windows` are rows of the numbers of a region, `bounds` in their place rows of min_x, min_y, max_x, max_y: an array, a
-        frame with columns of these names, or a list. `region` is Window, Inside, Covers or Circle.
+        `windows` are rows of the region's numbers; or else `bounds` are rows of min_x, min_y, max_x, max_y: an array, a frame
+        with columns of these names, or a list. `region` is Window, Inside, Covers or Circle.
         """
         from . import arrays
 
@@ -78,8 +81,8 @@ class BulkCalls:
         return places, ids
 
     def nearest_each(self, points: Any, k: int) -> "tuple[NDArray[Any], NDArray[Any], NDArray[Any]]":
-        """The places of many points, rows of x and y, the ids of the k boxes nearest to each, and the squares of their
-        distances, as three arrays."""
+        """Return three arrays with an item for each answer: the position of its point, the id, and the squared distance
+        (uint64; objects if one has more bits). `points` are rows of x and y."""
         from . import arrays
 
         columns = arrays.columns_of(points, "points", arrays.POINT)
@@ -88,7 +91,7 @@ class BulkCalls:
     def count_each(
         self, windows: Any = None, *, bounds: Any = None, region: type = Window, on: Layers | None = None
     ) -> "NDArray[Any]":
-        """How many boxes each of many windows accepts, as an array. The arguments are those of `find_each`."""
+        """Return how many boxes each window accepts, as a uint64 array. The arguments are those of `find_each`."""
         from . import arrays
 
         return self._counted(arrays.queries_of(windows, bounds, region, None, None, on))

@@ -92,8 +92,8 @@ class Client(SingleCalls):
     """A table that a service holds. The calls are those of `Rtfilter`.
 
     Threads may share a client, whose connection answers one call at a time. `timeout` is how many seconds a call may take,
-    with all of its waits. Whatever breaks a call off closes the connection, and the next call connects anew; so does one after
-    the service closed it. Raises OSError where there is no service, Disconnected where it closes the connection during a call,
+    with all of its waits. A call that ends early closes the connection, and the next call reconnects; so does one after the
+    service closed it. Raises OSError where there is no service, Disconnected where it closes the connection during a call,
     TimedOut where it doesn't answer in time, and RuntimeError in a child of a fork.
     """
 

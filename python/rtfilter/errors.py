@@ -55,4 +55,4 @@ class Disconnected(RtfilterError, ConnectionError):
 
 
 class TimedOut(RtfilterError, TimeoutError):
-    """A service didn't answer in time."""
+    """No reply within the timeout of a `Client`. Its next call reconnects."""

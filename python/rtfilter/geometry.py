@@ -29,7 +29,7 @@ Objects = NDArray[Any]
 
 
 class STRtree:
-    """Geometries, found by their places. None and empty ones are never found.
+    """A tree of geometries, known by their positions from 0. None, empty geometries and bounds of NaN are never found.
 
     `geometries` are a frame or a series of geopandas, an array or a list. Raises ValueError for infinite bounds.
     """
@@ -65,16 +65,16 @@ class STRtree:
         return min_x, min_y, max_x, max_y
 
     def query_bounds(self, bounds: Any) -> Places:
-        """The places of the geometries whose bounds overlap (min_x, min_y, max_x, max_y). Of rows of bounds, an array of two
-        rows: the places of bounds, and of geometries."""
+        """Return the positions of the geometries whose bounds overlap (min_x, min_y, max_x, max_y). For rows of bounds, an array
+        of two rows: the positions of the bounds, and of the geometries."""
         array = numpy.asarray(bounds, "f8")
         if array.shape == (4,):
             return self._boxes.meeting(rows_of(array[None], "bounds"))[1]
         return numpy.stack(self._boxes.meeting(rows_of(array, "bounds")))
 
     def query(self, geometry: Any, predicate: str | None = None, distance: Any = None) -> Places:
-        """The places of the geometries for which predicate(geometry, it) holds; without a predicate, of those whose bounds
-        overlap. Of many geometries, an array of two rows: their places, and those of geometries in the tree.
+        """Return the positions of the geometries for which predicate(geometry, other) holds; without a predicate, of those whose
+        bounds overlap. For several geometries, an array of two rows: their positions, and those of geometries in the tree.
 
         Predicates are those of shapely: contains, covered_by, covers, crosses, intersects, overlaps, touches, within; and
         dwithin, for which `distance` is a number, or one for each geometry.
@@ -96,8 +96,8 @@ class STRtree:
     def query_nearest(
         self, geometry: Any, max_distance: float | None = None, return_distance: bool = False, all_matches: bool = True
     ) -> Any:
-        """The places of the geometries nearest to one, all that are equally near, or with `all_matches` False the first of
-        them. Of many geometries, an array of two rows. With `return_distance`, the distances too."""
+        """Return the positions of the geometries nearest to `geometry`: all that are equally near, or with `all_matches` False
+        the first of them. For several geometries, an array of two rows. With `return_distance`, also the distances."""
         if max_distance is not None and not max_distance > 0:
             raise ValueError("max_distance is above 0")
         is_single, inputs = inputs_of(geometry)
@@ -195,8 +195,8 @@ def are_so(predicate: str, inputs: Objects, geometries: Objects) -> NDArray[nump
 
 
 def sjoin(left: Any, right: Any, how: str = "inner", predicate: str = "intersects") -> Any:
-    """Joins two frames by their geometries, as geopandas' `sjoin` does; by the rows of `left` and then of `right`, or with `how`
-    "right" the other way round."""
+    """Join two frames by their geometries, as geopandas' `sjoin` does. Rows are by those of `left` and then of `right`, or with
+    `how` "right" the other way round. Different CRS cause a warning; nothing is converted."""
     if how not in ("inner", "left", "right"):
         raise ValueError(f"how is inner, left or right, and not {how!r}")
     if left.crs != right.crs:

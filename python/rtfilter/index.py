@@ -10,7 +10,7 @@ from .floats import FloatBoxes, Floats, rows_of
 
 
 class Index:
-    """Boxes that are loaded at once and queried as those of rtree's `Index` are. Ids come in order, the least first.
+    """Boxes that are loaded at once and queried as those of rtree's `Index` are. Ids are ascending.
 
     `stream` has an item for each box: its id, its coordinates, and whatever else, which is ignored. Coordinates are decimals:
     min_x, min_y, max_x, max_y where `interleaved`, else min_x, max_x, min_y, max_y; two are a point. Raises ValueError for

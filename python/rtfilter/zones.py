@@ -16,7 +16,7 @@ LIMITS = numpy.iinfo("i4")
 
 
 class Zones:
-    """Polygons of any form, with holes and of several parts, found by their places.
+    """Polygons of any form, with holes and of several parts, known by their positions from 0.
 
     `polygons` are geometries of shapely, a frame or a series of geopandas, or GeoJSON that was read: each a Polygon or a
     MultiPolygon. Without `scale`, coordinates are whole numbers of 32 bits. With it each coordinate, of polygons and of points,
@@ -59,14 +59,14 @@ class Zones:
         return self._len
 
     def holding(self, x: float, y: float) -> list[int]:
-        """The places of the polygons that hold a point, the least first."""
+        """Return the positions of the polygons that contain the point (x, y), ascending."""
         whole_x, whole_y = self._whole_number(x), self._whole_number(y)
         parts = self._table.find(Covers(whole_x, whole_x, whole_y, whole_y))
         found = (int(self._zones[it]) for it in parts if self._polygons.holds(it, whole_x, whole_y))
         return [*dict.fromkeys(found)]
 
     def holding_each(self, points: Any) -> tuple[NDArray[Any], NDArray[Any]]:
-        """The places of many points, rows of x and y, and of the polygons that hold each of them, as two arrays."""
+        """Return two arrays with a pair for each answer: the position of the point, a row of x and y, and that of the polygon."""
         array = numpy.asarray(points)
         if array.shape != (0,) and (array.ndim != 2 or array.shape[1] != 2):
             raise TypeError(f"points: the shape is {array.shape}, and not (n, 2)")
