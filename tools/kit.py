@@ -48,9 +48,9 @@ def link(source, target):
         shutil.copy2(source, target)
 
 
-def link_folder(source, target):
-    """A folder with the files of another one, each under a second name, but for the help that a check writes anew each time."""
-    shutil.copytree(source, target, copy_function=link, dirs_exist_ok=True, ignore=shutil.ignore_patterns(HELP))
+def copy_proofs(source, target):
+    """Copies what checks proved, without the help that a check writes anew each time."""
+    shutil.copytree(source, target, dirs_exist_ok=True, ignore=shutil.ignore_patterns(HELP))
 
 
 def copy_crates(names, folder, top=ROOT, copy=shutil.copy2):
@@ -67,7 +67,7 @@ def copy_crates(names, folder, top=ROOT, copy=shutil.copy2):
 def take_library(name, folder, top=ROOT):
     """Gives a copied crate the library that was built of the original, if one was."""
     if (top / "crates" / name / "out/rlib").is_dir():
-        link_folder(top / "crates" / name / "out/rlib", folder / "crates" / name / "out/rlib")
+        shutil.copytree(top / "crates" / name / "out/rlib", folder / "crates" / name / "out/rlib", copy_function=link)
 
 
 @functools.cache
