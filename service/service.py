@@ -108,7 +108,7 @@ class Service:
         self._tables: list[Table] = []  # whose programs haven't ended: at most two
         self._table: Table | None = None  # of new connections
         self._is_reload_requested = False
-        self._is_end_urgent = False
+        self._is_ending = self._is_end_urgent = False
         self._changed = asyncio.Event()  # any of these
         self._common = prefork.Common()
         self._open: set[socket.socket] = set()  # connections that have a process
@@ -146,12 +146,13 @@ class Service:
 
     def _request_end(self, keeping: "asyncio.Task[None]") -> None:
         """Once, connections may still write what they have begun; the second time they are ended."""
-        self._is_end_urgent = keeping.cancelled()
+        self._is_end_urgent = keeping.cancelling() > 0
         keeping.cancel()
         self._state_changed()
 
     async def _end_connections(self) -> None:
         """Has connections end once they have answered the lines that they have read, for as long as `--drain` lets them."""
+        self._is_ending = True
         self._common.end()
         for connection in self._open:
             with contextlib.suppress(OSError):
@@ -208,6 +209,7 @@ class Service:
             try:
                 await self._load("ready again")
             except OSError as error:
+                self._counts["loads_failed_total"] += 1
                 log(f"the new table isn't taken, {'the old one stays' if self._table else 'there is none'}: {text_of(error)}")
                 notify("READY=1")
 
@@ -215,7 +217,10 @@ class Service:
         """Has a program load the table, and then answer. Raises `OSError`, where it doesn't."""
         reply = b""
         with open(os.memfd_create("rtfilter-errors"), "rb") as errors:
-            table = Table(self._start(errors.fileno(), 2, self._common))
+            try:
+                table = Table(self._start(errors.fileno(), 2, self._common))
+            except OSError as error:
+                raise ChildProcessError(f"the program can't be started: {text_of(error)}") from None
             asyncio.get_running_loop().add_reader(table.control, self._read_reports, table)
             self._tables.append(table)
             with table.first, contextlib.suppress(BlockingIOError, ConnectionError):  # it hasn't answered, nor read
@@ -232,7 +237,6 @@ class Service:
             fault = f"{self._args.table}: {fault.removeprefix('rtfilter: ')}"
         fault += MORE_BOXES[1] * (MORE_BOXES[0] in fault)
         fault += reason(self._args.table) if fault.endswith(NOT_OPENED) else ""
-        self._counts["loads_failed_total"] += 1
         self._status = max(table.process.returncode, NO_SERVICE)
         if not is_over:
             fault = f"{self._args.table}: not loaded in {self._args.load_timeout:g} seconds"
@@ -341,7 +345,8 @@ class Service:
             kind, code = ("status", code) if code >= 0 else ("signal", -code)
             self._counts[f'connections_ended_total{{{kind}="{code}"}}'] += 1
             how = f"{kind}={code} seconds={time.monotonic() - begun:.3f}"
-            if kind == "status" and code == UNREADABLE and 0 < self._args.silence <= time.monotonic() - begun:
+            could_be_silent = not self._is_ending and 0 < self._args.silence <= time.monotonic() - begun
+            if kind == "status" and code == UNREADABLE and could_be_silent:
                 send_line(connection, f"silent for {self._args.silence:g} seconds")
         self._counts["connections"] -= 1
         with contextlib.suppress(OSError), connection:

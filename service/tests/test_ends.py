@@ -1,9 +1,13 @@
 """Ends of processes, and what is left then."""
 
+import fcntl
+import itertools
 import os
 import random
 import signal
 import socket
+import struct
+import termios
 import threading
 import time
 from pathlib import Path
@@ -67,6 +71,35 @@ class Ends(Case):
             self.assertIsNone(service.process.poll())
             service.signal(signal.SIGINT)
             self.assertEqual(service.process.wait(10), 0)
+
+    def test_two_signals_at_once(self) -> None:
+        """The second is urgent, however soon after the first it comes."""
+        for _ in range(8):
+            service = self.served(table_of(self.folder, "many", 0, 100_000), "--drain", "60")
+            with service.connect() as reads_nothing:
+                reads_nothing.sendall(b"find all\n" * 50)
+                self.assertTrue(reads_nothing.recv(1))
+                stop([service.process.pid])
+                for number in (signal.SIGTERM, signal.SIGINT, signal.SIGCONT):
+                    service.signal(number)
+                self.assertEqual(service.process.wait(10), 0)
+
+    def test_a_part_of_a_line_at_the_end(self) -> None:
+        """Its connection was open for longer than `--silence`, and is not said to have been silent."""
+        service = self.served(BOXES, "--silence", "2")
+        with service.connect() as asker:
+            begun = time.monotonic()
+            for at in itertools.count(1):
+                self.count(asker, at=at)
+                if time.monotonic() > begun + 2.2:
+                    break
+                time.sleep(0.1)
+            asker.sendall(b"count al")
+            until(lambda: not unread(asker), "its read")
+            service.signal(signal.SIGTERM)
+            self.assertEqual(asker.recv(100), b"")
+        self.assertEqual(service.process.wait(10), 0)
+        service.logs(r"^connection 1 \(.*\): status=4 ")
 
     def test_who_connects_while_it_ends(self) -> None:
         """Waits for the next service, where the socket stays: here a process of the program's ends only when it may."""
@@ -275,3 +308,9 @@ class Ends(Case):
         service = self.served(program=str(program))
         self.assertEqual(service.process.wait(10), 1)
         service.logs("^the program has ended, with status 0$")
+
+
+def unread(asker: socket.socket) -> int:
+    """How many bytes that were sent over a Unix socket haven't been read."""
+    (count,) = struct.unpack("i", fcntl.ioctl(asker, termios.TIOCOUTQ, bytes(4)))
+    return int(count)
