@@ -1,8 +1,10 @@
 """What tests around the program share: where things are, and the examples of pages."""
 
+import errno
 import os
 import subprocess
 import sys
+import time
 from collections.abc import Iterator
 from pathlib import Path
 
@@ -52,3 +54,15 @@ def printed(page: Path, tool: str, path: str = "") -> Iterator[tuple[str, str, s
             stderr=subprocess.STDOUT, text=True, timeout=LONGEST,
         )  # fmt: skip
         yield command, shown, done.stdout
+
+
+def opened_for_writing(pipe: Path) -> int:
+    """The end of a named pipe, once another process reads from it."""
+    until = time.monotonic() + LONGEST
+    while True:
+        try:
+            return os.open(pipe, os.O_WRONLY | os.O_NONBLOCK)
+        except OSError as error:
+            if error.errno != errno.ENXIO or time.monotonic() > until:
+                raise
+            time.sleep(0.01)

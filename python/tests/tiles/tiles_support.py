@@ -50,8 +50,9 @@ def ids_of(table: Path, line: str) -> list[int]:
 class Server:
     """A server of a table, as a process."""
 
-    def __init__(self, table: Path, *options: str) -> None:
-        words = [*COMMAND, "--port", "0", *options, table]
+    def __init__(self, table: Path, *options: str, before: Iterable[str] = ()) -> None:
+        """`before` are words of a command that runs it."""
+        words = [*before, *COMMAND, "--port", "0", *options, table]
         pipe = subprocess.PIPE
         self.process = subprocess.Popen([*map(str, words)], stdout=pipe, stderr=pipe, text=True, env=environment())
         assert self.process.stdout is not None
