@@ -68,6 +68,12 @@ def text_of(error: OSError) -> str:
     return f"{error.filename}: {error.strerror}" if error.filename else error.strerror or str(error)
 
 
+def kill_group(leader: int) -> None:
+    """Kills a process with its group, of which there is none if it was killed before it could lead one."""
+    with contextlib.suppress(ProcessLookupError):
+        os.killpg(leader, signal.SIGKILL)
+
+
 def send_line(connection: socket.socket, text: str) -> None:
     """Sends a line to a client, if that needs no wait. No reply begins so."""
     with contextlib.suppress(OSError):
@@ -111,7 +117,7 @@ class Service:
         self._is_ending = self._is_end_urgent = False
         self._changed = asyncio.Event()  # any of these
         self._common = prefork.Common()
-        self._open: set[socket.socket] = set()  # connections that have a process
+        self._open: set[socket.socket] = set()  # connections that a program was given
         self._counts = Counter(
             connections=0, connections_total=0, connections_refused_total=0, connections_not_begun_total=0,
             table_generation=0, loads_failed_total=0,
@@ -266,7 +272,7 @@ class Service:
     async def _end(self, table: Table) -> None:
         """Ends a program with its connections."""
         if table in self._tables:
-            os.killpg(table.process.pid, signal.SIGKILL)
+            kill_group(table.process.pid)
             await self._wait_until(lambda: table not in self._tables)
 
     def _read_reports(self, table: Table) -> None:
@@ -291,7 +297,7 @@ class Service:
         """Kills what is left of a program's group, its connections too, and waits for it."""
         asyncio.get_running_loop().remove_reader(table.control)
         table.control.close()
-        os.killpg(table.process.pid, signal.SIGKILL)
+        kill_group(table.process.pid)
         status = table.process.wait()
         with contextlib.suppress(ChildProcessError):  # its connections are this process's only where that is process 1
             while True:
@@ -368,16 +374,16 @@ class Service:
                 self._open.add(connection)
                 if not self._accepting_table():
                     self._state_changed()
-                if (status := await end) is not None:
+                status = await end
+                self._open.discard(connection)
+                if not self._open:
+                    self._state_changed()  # the service may wait for the last one, in order to end
+                if status is not None:
                     return status
         except OSError as error:
             return -(error.errno or errno.EIO)
         except asyncio.CancelledError:  # the service ends
             return signal.SIGKILL
-        finally:
-            self._open.discard(connection)
-            if not self._open:
-                self._state_changed()  # the service may wait for the last one, in order to end
 
     def _metrics(self) -> dict[str, float]:
         counts: dict[str, float] = {**self._counts, **self._common.metrics()}

@@ -34,6 +34,21 @@ pid_t fork(void)
 """
 
 
+NO_GROUP = """
+#define _GNU_SOURCE
+#include <signal.h>
+#include <stdlib.h>
+#include <sys/syscall.h>
+#include <unistd.h>
+int setpgid(pid_t process, pid_t group)
+{
+  if (!access(getenv("FLAG"), F_OK))
+    kill(getpid(), SIGKILL);
+  return syscall(SYS_setpgid, process, group);
+}
+"""
+
+
 class SameAsProgram(Case):
     def check_replies(self, service: Served, seed: int) -> None:
         """One connection of random lines, cut anywhere."""
@@ -291,6 +306,17 @@ class WantOfRoom(Case):
         service.exchange()
         self.assert_well(service)
         until(lambda: service.open_files == before, "nothing left open")
+
+    def test_a_program_that_is_killed_as_it_starts(self) -> None:
+        """Before it leads a group of processes: the load has failed, and the next one is made."""
+        environment, flag = self.preload(NO_GROUP)
+        service = self.served(env=environment)
+        flag.touch()
+        service.signal(signal.SIGHUP)
+        service.logs("^the new table isn't taken, the old one stays: the program has ended, with status -9$")
+        flag.unlink()
+        service.exchange()
+        self.assert_well(service)
 
     def test_descriptors(self) -> None:
         """Where the service has no descriptor left, new connections wait, that is logged once, and nothing is busy."""
