@@ -21,7 +21,7 @@ import health
 import prefork
 from listening import peer_of
 
-PAUSE, BETWEEN_COMPLAINTS = 0.1, 10.0  # seconds before another try to accept, and before that is logged again
+PAUSE, BETWEEN_COMPLAINTS = 0.1, 10.0  # seconds before another try to accept, and before such a fault is logged again
 FIRST_PAUSE, LONGEST_PAUSE = 0.1, 10.0  # seconds before a program is started anew
 GRACE = 2.0  # seconds that a program has to begin what it was given
 MOST_PENDING = 4  # connections that a program may have to begin yet: others wait in the backlog
@@ -131,7 +131,7 @@ class Service:
     async def run(self, health_listener: socket.socket | None) -> int:
         """Serves until a signal ends it, and returns the exit status."""
         loop = asyncio.get_running_loop()
-        loop.set_exception_handler(lambda _, it: log(f"rtfilter-serve: {it['message']}: {it.get('exception')}"))
+        loop.set_exception_handler(lambda _, it: self._complain(f"{it['message']}: {it.get('exception')}"))
         if health_listener:
             await health.serve(health_listener, self._metrics)
         for listener in self._listeners:
@@ -318,7 +318,7 @@ class Service:
         return self._table if self._table and len(self._table.pending) < MOST_PENDING else None
 
     def _accept(self, listener: socket.socket) -> None:
-        """Accepts a connection. A lack of descriptors is logged now and then, and it is tried again after a pause."""
+        """Accepts a connection. Where there is no descriptor for it, it is tried again after a pause."""
         loop = asyncio.get_running_loop()
         try:
             if self._counts["connections"] >= self._most_connections:
@@ -329,9 +329,13 @@ class Service:
         except OSError as error:
             loop.remove_reader(listener)
             loop.call_later(PAUSE, self._state_changed)
-            if time.monotonic() >= self._last_complaint + BETWEEN_COMPLAINTS:
-                self._last_complaint = time.monotonic()
-                log(f"no connection accepted: {error.strerror}")
+            self._complain(f"no connection accepted: {error.strerror}")
+
+    def _complain(self, text: str) -> None:
+        """Logs what may be wrong at each connection, now and then."""
+        if time.monotonic() >= self._last_complaint + BETWEEN_COMPLAINTS:
+            self._last_complaint = time.monotonic()
+            log(text)
 
     async def _serve(self, connection: socket.socket, address: object) -> None:
         """Serves a connection to its end. The socket stays open here until that is counted: a client that sees the end of one

@@ -5,7 +5,7 @@ import os
 import subprocess
 import sys
 import time
-from collections.abc import Iterator
+from collections.abc import Callable, Iterator
 from pathlib import Path
 
 import pages
@@ -54,6 +54,15 @@ def printed(page: Path, tool: str, path: str = "") -> Iterator[tuple[str, str, s
             stderr=subprocess.STDOUT, text=True, timeout=LONGEST,
         )  # fmt: skip
         yield command, shown, done.stdout
+
+
+def until(is_so: Callable[[], object], what: str = "what is waited for") -> None:
+    """Waits until something is so."""
+    end = time.monotonic() + LONGEST
+    while not is_so():
+        if time.monotonic() > end:
+            raise TimeoutError(f"{what} doesn't come")
+        time.sleep(0.005)
 
 
 def opened_for_writing(pipe: Path) -> int:

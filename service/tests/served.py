@@ -13,13 +13,13 @@ import tempfile
 import threading
 import time
 import unittest
-from collections.abc import Callable, Iterable, Iterator
+from collections.abc import Iterable, Iterator
 from pathlib import Path
 from typing import Any
 
 import random_runs
 from prefork import library_of
-from support import DATA, PROGRAM, ROOT
+from support import DATA, PROGRAM, ROOT, until
 
 SERVICE = ROOT / "service/serve.py"
 BOXES = DATA / "boxes.csv"
@@ -29,16 +29,6 @@ TRIES = "-include", Path(__file__).with_name("tries.h")
 SYSTEM_PYTHON = "/usr/bin/python3"  # which other users may run too
 MOMENT = re.compile(r"^\d{4}-\d\d-\d\dT\d\d:\d\d:\d\dZ ", re.MULTILINE)  # at which a line was logged
 LONG = 20.0  # seconds after which what is waited for doesn't come
-
-
-
-def until(is_so: Callable[[], object], what: str) -> None:
-    """Waits until something is so."""
-    end = time.monotonic() + LONG
-    while not is_so():
-        if time.monotonic() > end:
-            raise AssertionError(f"{what} doesn't come")
-        time.sleep(0.005)
 
 
 def state_of(process: int) -> tuple[str, int]:

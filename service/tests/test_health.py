@@ -11,7 +11,7 @@ import sys
 import time
 from pathlib import Path
 
-from served import BOXES, MOMENT, PROGRAM, SERVICE, Case, Served, put_library, read_lines, table_of, until
+from served import BOXES, MOMENT, PROGRAM, SERVICE, Case, Served, put_library, read_lines, stop, table_of, until
 
 HEAD = re.compile(
     rb"HTTP/1\.0 (\d{3}) [A-Za-z ]+\r\nContent-Type: text/plain; version=0\.0\.4; charset=utf-8\r\n"
@@ -132,6 +132,22 @@ class Health(Case):
                 service.signal(signal.SIGTERM)
                 self.assertEqual(service.process.wait(10), 0)
             self.assertEqual(len(service.log.splitlines()), 3, service.log)
+
+    def test_more_clients_than_descriptors(self) -> None:
+        """Those that come at once have them tried again and again, which is logged once, and leave no trace."""
+        service = self.served(BOXES, "--health", "0", before=["prlimit", "--nofile=64"])
+        with contextlib.ExitStack() as stack:
+            stop([service.process.pid])
+            for _ in range(150):
+                asker = stack.enter_context(socket.socket())
+                asker.setblocking(False)
+                asker.connect_ex(service.place("health"))
+            service.signal(signal.SIGCONT)
+            service.logs("Too many open files$")
+            time.sleep(1.5)  # in which it tries again
+        until(lambda: service.get("/health") == (200, "ready\n"), "a descriptor")
+        self.assert_well(service)
+        self.assertEqual(service.log.count("Too many open files"), 1)
 
     def test_busy_seconds(self) -> None:
         """From a read of lines to the next read: a search and its writes, and no wait for lines."""

@@ -14,7 +14,6 @@ import tempfile
 import threading
 import time
 import unittest
-from collections.abc import Callable
 from http.client import HTTPConnection, HTTPResponse
 from http.server import BaseHTTPRequestHandler, ThreadingHTTPServer
 from pathlib import Path
@@ -22,7 +21,7 @@ from typing import Any
 
 from aiohttp.test_utils import TestClient, TestServer
 from chromium import Chromium
-from support import LONGEST, ROOT, environment, opened_for_writing
+from support import LONGEST, ROOT, environment, opened_for_writing, until
 from tiles_support import BOXES, COMMAND, Mapped, Server, make_map, wants
 
 from rtfilter.tiles import server as serving
@@ -417,15 +416,6 @@ def metric(server: Server, name: str) -> float:
     text = server.get("/metrics")[1].decode()
     (found,) = re.findall(rf"^{re.escape(name)} (\S+)$", text, re.MULTILINE)
     return float(found)
-
-
-def until(is_so: Callable[[], bool]) -> None:
-    """Waits until something is so."""
-    end = time.monotonic() + LONGEST
-    while not is_so():
-        if time.monotonic() > end:
-            raise TimeoutError
-        time.sleep(0.02)
 
 
 class Many(Serving):
