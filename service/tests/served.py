@@ -19,7 +19,7 @@ from typing import Any
 
 import random_runs
 from prefork import library_of
-from support import DATA, PROGRAM, ROOT, until
+from support import DATA, PROGRAM, ROOT, found, until, wants
 
 SERVICE = ROOT / "service/serve.py"
 BOXES = DATA / "boxes.csv"
@@ -49,14 +49,6 @@ def children_of(process: int) -> list[int]:
 def is_there(process: int) -> bool:
     """Whether a process runs: one that has ended may still be waited for."""
     return state_of(process)[0] not in "ZX"
-
-
-def found(pattern: str, text: str, flags: int = 0) -> re.Match[str]:
-    """Where a text has a part that matches, as it is to have."""
-    match = re.search(pattern, text, flags)
-    if match is None:
-        raise AssertionError(f"{pattern} isn't in {text}")
-    return match
 
 
 def send(number: int, processes: Iterable[int]) -> None:
@@ -222,8 +214,7 @@ class Case(unittest.TestCase):
     def preload(self, text: str) -> tuple[dict[str, str], Path]:
         """An environment in which a library of this source is loaded before others, and the file FLAG of that: while it is
         there, a call of the system is to fail."""
-        if shutil.which("cc") is None:
-            self.skipTest("a C compiler: not installed")
+        wants("cc")
         source, library, flag = (Path(self.folder, name) for name in ("preload.c", "preload.so", "flag"))
         source.write_text(text)
         subprocess.run(["cc", "-shared", "-fPIC", "-o", library, source], check=True)

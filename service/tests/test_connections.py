@@ -16,6 +16,7 @@ from served import (
     BOXES, PROGRAM, Case, Served, all_of, answers, found, read_lines, send, some_pieces,
     some_queries, table_of, talk, output_of_program, until,
 )  # fmt: skip
+from support import seconds_of
 
 RESET = struct.pack("2i", 1, 0)  # of SO_LINGER: a close sends a reset
 NO_FORK = """
@@ -326,9 +327,9 @@ class WantOfRoom(Case):
             askers = [stack.enter_context(service.connect()) for _ in range(40)]
             service.logs("^no connection accepted: Too many open files$")
             until(lambda: len(service.connections) in range(10, 24), "a process for each that was accepted")
-            spent = sum(map(times_of, processes))
+            spent = sum(map(seconds_of, processes))
             time.sleep(1)
-            self.assertLess(sum(map(times_of, processes)) - spent, 0.1)
+            self.assertLess(sum(map(seconds_of, processes)) - spent, 0.1)
             self.assertEqual(service.log.count("no connection accepted"), 1)
             for asker in askers:  # each comes in turn, as others leave
                 self.count(asker)
@@ -348,9 +349,3 @@ class WantOfRoom(Case):
                 self.count(asker)
                 asker.close()
         until(lambda: len(service.programs) == 1, "the end of the old table")
-
-
-def times_of(process: int) -> float:
-    """Seconds of processor time that a process has taken."""
-    fields = Path(f"/proc/{process}/stat").read_text().rpartition(")")[2].split()
-    return (int(fields[11]) + int(fields[12])) / os.sysconf("SC_CLK_TCK")

@@ -21,8 +21,8 @@ from typing import Any
 
 from aiohttp.test_utils import TestClient, TestServer
 from chromium import Chromium
-from support import LONGEST, ROOT, environment, opened_for_writing, until
-from tiles_support import BOXES, COMMAND, Mapped, Server, make_map, wants
+from support import LONGEST, ROOT, environment, opened_for_writing, until, wants
+from tiles_support import BOXES, COMMAND, Mapped, Server, make_map
 
 from rtfilter.tiles import server as serving
 from rtfilter.tiles.mercator import HALF, window_of
