@@ -22,7 +22,7 @@ enum {
     MOST_VERTICES = 16,
 };
 
-static PyObject *table_error, *query_error; /* exceptions */
+static PyObject *table_error, *query_error, *layer_bits; /* two exceptions, and the function that reads layers: from Python */
 
 /* ---- Tables and their sessions */
 
@@ -154,6 +154,19 @@ static void release(Py_buffer *views, int count)
 
 /* ---- Opening */
 
+/* A whole number, or what Python takes for an index. A new reference. */
+static PyObject *whole(PyObject *number, PyObject *of)
+{
+    PyObject *found = PyLong_Check(number) ? Py_NewRef(number) : PyNumber_Index(number);
+    if (!found && PyErr_ExceptionMatches(PyExc_TypeError)) {
+        if (of)
+            PyErr_Format(PyExc_TypeError, "%.200R isn't a whole number: %.200R", number, of);
+        else
+            PyErr_Format(PyExc_TypeError, "%.200R isn't a whole number", number);
+    }
+    return found;
+}
+
 static PyObject *raise_fault(const rtfilter_fault *fault)
 {
     PyObject *error = PyObject_CallFunction(table_error, "IIK", (unsigned)fault->kind, (unsigned)fault->record,
@@ -177,6 +190,19 @@ static PyObject *opened(Table *self, int code, const rtfilter_fault *fault)
     return NULL;
 }
 
+/* Reads a setting, for PyArg_ParseTuple. One beyond 64 bits becomes 0, which the library refuses. */
+static int read_setting(PyObject *number, void *setting)
+{
+    int overflow;
+    PyObject *found = whole(number, NULL);
+    if (!found)
+        return 0;
+    const long long value = PyLong_AsLongLongAndOverflow(found, &overflow);
+    *(long long *)setting = overflow ? 0 : value;
+    Py_DECREF(found);
+    return 1;
+}
+
 /* A setting that is out of the range of its member becomes 0, which the library refuses. */
 static rtfilter_settings settings_of(int header, long long fanout, long long most)
 {
@@ -192,7 +218,7 @@ static PyObject *open_file(PyTypeObject *type, PyObject *args)
     PyObject *name, *path, *table = NULL;
     int header;
     long long fanout, most;
-    if (!PyArg_ParseTuple(args, "OpLL", &name, &header, &fanout, &most) || !PyUnicode_FSConverter(name, &path))
+    if (!PyArg_ParseTuple(args, "OpO&O&", &name, &header, read_setting, &fanout, read_setting, &most) || !PyUnicode_FSConverter(name, &path))
         return NULL;
     const rtfilter_settings settings = settings_of(header, fanout, most);
     Table *self = (Table *)PyType_GenericAlloc(type, 0);
@@ -221,7 +247,8 @@ static PyObject *open_arrays(PyTypeObject *type, PyObject *args)
     static const Py_ssize_t sizes[COLUMNS] = {8, 4, 4, 4, 4, 1};
     PyObject *from[COLUMNS], *table = NULL;
     long long fanout, most;
-    if (!PyArg_ParseTuple(args, "(OOOOOO)LL", from, from + 1, from + 2, from + 3, from + 4, from + LAYERS, &fanout, &most))
+    if (!PyArg_ParseTuple(args, "(OOOOOO)O&O&", from, from + 1, from + 2, from + 3, from + 4, from + LAYERS, read_setting,
+                          &fanout, read_setting, &most))
         return NULL;
     const bool has_layers = from[LAYERS] != Py_None;
     const int columns = has_layers ? COLUMNS : LAYERS;
@@ -251,7 +278,7 @@ static PyObject *open_arrays(PyTypeObject *type, PyObject *args)
 typedef struct {
     rtfilter_query query;
     rtfilter_point vertices[MOST_VERTICES];
-    PyObject *region; /* borrowed; for errors */
+    PyObject *part; /* borrowed: the region or the order that an error names */
     bool has_scores;
 } request;
 
@@ -289,19 +316,6 @@ static PyObject *raise_query(PyObject *region, Py_ssize_t at, const char *code, 
     return NULL;
 }
 
-/* A whole number, or what Python takes for an index. A new reference. */
-static PyObject *whole(PyObject *number, PyObject *of)
-{
-    PyObject *found = PyLong_Check(number) ? Py_NewRef(number) : PyNumber_Index(number);
-    if (!found && PyErr_ExceptionMatches(PyExc_TypeError)) {
-        if (of)
-            PyErr_Format(PyExc_TypeError, "%R isn't a whole number: %R", number, of);
-        else
-            PyErr_Format(PyExc_TypeError, "%R isn't a whole number", number);
-    }
-    return found;
-}
-
 static bool put_number(const request *it, PyObject *number, PyObject *of, void *field, bool is_unsigned)
 {
     int overflow;
@@ -311,7 +325,7 @@ static bool put_number(const request *it, PyObject *number, PyObject *of, void *
     const long long value = PyLong_AsLongLongAndOverflow(found, &overflow);
     Py_DECREF(found);
     if (overflow || value < (is_unsigned ? 0 : INT32_MIN) || value > (is_unsigned ? (long long)UINT32_MAX : INT32_MAX)) {
-        raise_query(it->region, -1, "Q6", "out of range");
+        raise_query(it->part, -1, "Q6", "out of range");
         return false;
     }
     const uint32_t bits = (uint32_t)value;
@@ -324,7 +338,7 @@ static bool is_tuple(PyObject *it, PyObject *polygon)
 {
     if (PyTuple_Check(it))
         return true;
-    PyErr_Format(PyExc_TypeError, "vertices aren't a tuple of pairs (x, y): %R", polygon);
+    PyErr_Format(PyExc_TypeError, "vertices aren't a tuple of pairs (x, y): %.200R", polygon);
     return false;
 }
 
@@ -370,10 +384,10 @@ static bool put_region(request *it, PyObject *value)
 {
     const struct kind *kind = kind_of((PyObject *)Py_TYPE(value), 0, ORDERS);
     if (!kind) {
-        PyErr_Format(PyExc_TypeError, "%R is no region", value);
+        PyErr_Format(PyExc_TypeError, "%.200R is no region", value);
         return false;
     }
-    it->region = value;
+    it->part = value;
     it->query.region = kind->code;
     if (!put_numbers(it, kind, value))
         return false;
@@ -394,11 +408,21 @@ static bool put_order(request *it, PyObject *value)
 {
     const struct kind *kind = kind_of((PyObject *)Py_TYPE(value), ORDERS, KINDS);
     if (!kind) {
-        PyErr_Format(PyExc_TypeError, "%R is no order", value);
+        PyErr_Format(PyExc_TypeError, "%.200R is no order", value);
         return false;
     }
+    it->part = value;
     it->query.order = kind->code;
     return put_numbers(it, kind, value);
+}
+
+/* Raises that a number is out of range. Takes the words that an error names; null where Python doesn't print as many digits. */
+static void refuse_words(PyObject *words)
+{
+    if (!words)
+        PyErr_Clear();
+    raise_query(words, -1, "Q6", "out of range");
+    Py_XDECREF(words);
 }
 
 static bool put_limit(request *it, PyObject *number)
@@ -410,55 +434,19 @@ static bool put_limit(request *it, PyObject *number)
     Py_DECREF(found);
     if (PyErr_Occurred() && PyErr_ExceptionMatches(PyExc_OverflowError)) {
         PyErr_Clear();
-        raise_query(it->region, -1, "Q6", "out of range");
+        refuse_words(PyUnicode_FromFormat("first %S", number));
     }
     return !PyErr_Occurred();
 }
 
-static bool put_layer(request *it, PyObject *number)
-{
-    int overflow;
-    if (PyBool_Check(number)) {
-        PyErr_Format(PyExc_TypeError, "a layer is a whole number, and not %R", number);
-        return false;
-    }
-    PyObject *found = whole(number, NULL);
-    const long layer = found ? PyLong_AsLongAndOverflow(found, &overflow) : 0;
-    if (!found)
-        return false;
-    Py_DECREF(found);
-    if (overflow || layer < 0 || layer > 63) {
-        PyErr_Format(PyExc_ValueError, "a layer is 0 to 63, and not %R", number);
-        return false;
-    }
-    it->query.layers |= UINT64_C(1) << layer;
-    return true;
-}
-
-/* One layer, or an iterable of layers. */
+/* A layer, or an iterable of layers. */
 static bool put_layers(request *it, PyObject *on)
 {
-    it->query.layers = 0;
-    if (PyUnicode_Check(on) || PyBytes_Check(on)) {
-        PyErr_Format(PyExc_TypeError, "layers are whole numbers, and not %R", on);
-        return false;
-    }
-    PyObject *each = PyLong_Check(on) ? NULL : PyObject_GetIter(on), *layer;
-    if (!each && PyErr_Occurred() && !PyErr_ExceptionMatches(PyExc_TypeError))
-        return false;
-    if (!each) { /* no iterable */
-        PyErr_Clear();
-        return put_layer(it, on);
-    }
-    bool is_sound = true;
-    while (is_sound && (layer = PyIter_Next(each))) {
-        is_sound = put_layer(it, layer);
-        Py_DECREF(layer);
-    }
-    Py_DECREF(each);
-    if (!PyErr_Occurred() && !it->query.layers)
-        PyErr_SetString(PyExc_ValueError, "no layer is given; None stands for all layers");
-    return !PyErr_Occurred();
+    PyObject *bits = PyObject_CallFunctionObjArgs(layer_bits, on, NULL);
+    if (bits)
+        it->query.layers = PyLong_AsUnsignedLongLong(bits);
+    Py_XDECREF(bits);
+    return bits;
 }
 
 /* Puts the arguments after the region, as words of a query line come: the first fault is raised. */
@@ -495,7 +483,7 @@ static bool put_arguments(PyObject **given, const char *const *known, int most, 
 static bool put_all(request *it, PyObject *region, PyObject *order, PyObject *first, PyObject *on)
 {
     it->query = rtfilter_all();
-    it->region = NULL;
+    it->part = NULL;
     if (!region)
         PyErr_SetString(PyExc_TypeError, "no region");
     return region && put_region(it, region) && put_rest(it, order, first, on);
@@ -607,10 +595,7 @@ static PyObject *table_nearest(Table *self, PyObject *const *args, Py_ssize_t co
         return found(self, &it);
     if (PyErr_ExceptionMatches(query_error)) {
         PyErr_Clear();
-        PyObject *line = PyUnicode_FromFormat("nearest %S %S %S", given[0], given[1], given[2]);
-        if (line)
-            raise_query(line, -1, "Q6", "out of range");
-        Py_XDECREF(line);
+        refuse_words(PyUnicode_FromFormat("nearest %S %S %S", given[0], given[1], given[2]));
     }
     return NULL;
 }
@@ -808,6 +793,8 @@ static PyObject *find_each(Table *self, PyObject *args)
     if (!PyArg_ParseTuple(args, "OnnO!O!On|OO", from, &it.place, &it.total, &PyByteArray_Type, &places, &PyByteArray_Type, &ids, &scores,
                           &count, from + 1, from + 2))
         return NULL;
+    if (it.place < 0 || count < 0 || !(scores == Py_None || PyByteArray_Check(scores)))
+        return PyErr_Format(PyExc_TypeError, "a negative place or number, or scores that are no bytearray");
     const int needed = from[2] ? 3 : 1;
     int views = 0;
     while (views < needed && view_items(from[views], of + views, sizes[views], lens + views))
@@ -1057,24 +1044,29 @@ static PyType_Slot polygons_slots[] = {
     {Py_tp_methods, polygons_methods}, {Py_tp_new, polygons_new}, {Py_tp_dealloc, polygons_free}, {0}};
 static PyType_Spec polygons_spec = {"rtfilter._engine.Polygons", sizeof(Polygons), 0, Py_TPFLAGS_DEFAULT, polygons_slots};
 
-/* know(classes, TableError, QueryError): those of regions and orders, in the order of `kinds`. */
+/* know(classes, TableError, QueryError, layer_bits): the classes of regions and orders, in the order of `kinds`. They stand for the
+ * whole process, so that one interpreter of it has them. */
 static PyObject *know(PyObject *Py_UNUSED(module), PyObject *args)
 {
-    PyObject *classes, *one, *other;
-    if (!PyArg_ParseTuple(args, "O!OO", &PyTuple_Type, &classes, &one, &other))
+    static int64_t owner = -1;
+    const int64_t interpreter = PyInterpreterState_GetID(PyInterpreterState_Get());
+    PyObject *classes, *one, *other, *reader;
+    if (owner >= 0 && owner != interpreter) {
+        PyErr_SetString(PyExc_ImportError, "another interpreter of this process has imported rtfilter");
+        return NULL;
+    }
+    if (!PyArg_ParseTuple(args, "O!OOO", &PyTuple_Type, &classes, &one, &other, &reader))
         return NULL;
     if (PyTuple_Size(classes) != KINDS) {
         PyErr_SetString(PyExc_ValueError, "another number of classes");
         return NULL;
     }
-    for (int at = 0; at < KINDS; at++) {
-        Py_XDECREF(kinds[at].class);
+    owner = interpreter;
+    for (int at = 0; at < KINDS; at++)
         kinds[at].class = Py_NewRef(PyTuple_GetItem(classes, at));
-    }
-    Py_XDECREF(table_error);
-    Py_XDECREF(query_error);
     table_error = Py_NewRef(one);
     query_error = Py_NewRef(other);
+    layer_bits = Py_NewRef(reader);
     return Py_NewRef(Py_None);
 }
 

@@ -196,7 +196,7 @@ class WholePart:
 
     def __init__(self, frame: Frame) -> None:
         self.frame = frame.sort_values("id", ignore_index=True)
-        self.ids = _ids_of(self.frame)
+        self.ids = arrays.ids_of(numpy.asanyarray(self.frame["id"]), "id")
         layers = self.frame["layer"] if "layer" in self.frame else None
         self.table = Rtfilter.from_bounds(self.frame[[*BOUNDS]], layers=layers)
         self.bounds = self.table.bounds
@@ -218,7 +218,7 @@ class FloatPart:
 
     def __init__(self, frame: Frame) -> None:
         self.frame = frame.sort_values("id", ignore_index=True)
-        self.ids = _ids_of(self.frame)
+        self.ids = arrays.ids_of(numpy.asanyarray(self.frame["id"]), "id")
         is_bare = GEOMETRY not in frame.columns
         self.tree = STRtree.from_bounds(self.frame[[*BOUNDS]].to_numpy("f8")) if is_bare else STRtree(self.frame)
         self.bounds = self.tree.bounds
@@ -270,14 +270,6 @@ def _stamp_of(file: str) -> tuple[int, int]:
     """The size of a file in bytes, and the time of its last change in nanoseconds."""
     found = os.stat(file)
     return found.st_size, found.st_mtime_ns
-
-
-def _ids_of(frame: Frame) -> NDArray[Any]:
-    """The ids of boxes. Raises TypeError where one isn't whole, and ValueError where one is out of range."""
-    ids = arrays.whole(numpy.asanyarray(frame["id"]), "id")
-    if arrays.first_beyond([ids], ["i8"]) is not None:
-        raise ValueError("id: a number is out of the range of 64 bits")
-    return arrays.converted([ids], ["i8"])[0]
 
 
 def _regions(region: type, order: Order | None, first: int | None, on: Layers | None, frame: Frame) -> Queries:

@@ -9,7 +9,7 @@ from typing import TYPE_CHECKING, Any, NoReturn, Self
 from . import _engine
 from .calls import BulkCalls, Closable
 from .errors import FIELD_COUNT, FLOATS, OUT_OF_RANGE, REPEATED, TOO_MANY, QueryError, TableError
-from .regions import CLASSES
+from .regions import ORDERS, REGIONS, layer_bits
 from .replies import Reply, cut, joined, listed
 
 if TYPE_CHECKING:
@@ -17,7 +17,7 @@ if TYPE_CHECKING:
 
     from .arrays import Columns, Queries
 
-_engine.know(CLASSES, TableError, QueryError)
+_engine.know(REGIONS + ORDERS, TableError, QueryError, layer_bits)
 
 FIELDS = ("id", "min_x", "max_x", "min_y", "max_y", "layer")
 FORMATS = ("i8", "i4", "i4", "i4", "i4", "u1")  # as numpy names them
@@ -66,7 +66,7 @@ class Rtfilter(_engine.Table, Closable, BulkCalls):
     @classmethod
     def _open_named(cls, name: "str | bytes | os.PathLike[str]", header: bool, fanout: int, max_entries: int) -> Self:
         try:
-            return cls._open_file(name, header, fanout, max_entries)
+            return cls._open_file(os.fspath(name), header, fanout, max_entries)
         except TableError as error:
             error.file = os.fsdecode(name)
             raise
@@ -96,7 +96,7 @@ class Rtfilter(_engine.Table, Closable, BulkCalls):
     def _open_rows(cls, rows: Iterable[Any], fanout: int, max_entries: int) -> Self:
         columns = [array(code) for code in CODES]
         for record, row in enumerate(rows, 1):
-            if not isinstance(row, Iterable):
+            if not isinstance(row, Iterable) or isinstance(row, (str, bytes)):
                 raise TypeError(f"row {record - 1}: {row!r:.50} isn't a row of {', '.join(FIELDS[:5])}")
             fields = tuple(row)
             if len(fields) not in (5, 6):

@@ -1,9 +1,12 @@
 """A service over its socket: its ends, its silence, its absence."""
 
 import asyncio
+import contextlib
+import math
 import os
 import pickle
 import random
+import resource
 import signal
 import socket
 import threading
@@ -13,6 +16,7 @@ from contextlib import suppress
 from pathlib import Path
 from typing import Any
 
+import numpy
 import pytest
 from conftest import Serve
 
@@ -117,11 +121,13 @@ def test_calls(client: Client, boxes: Rtfilter) -> None:
     for bad, error in ((0.5, TypeError), ("x", TypeError)):
         with pytest.raises(error):
             client.find(Window(0, bad, 0, 1))  # type: ignore[arg-type]
-    for on, error in (([], ValueError), (64, ValueError), (True, TypeError), ("3", TypeError), (1.5, TypeError)):
+    for on, error in (([], ValueError), (64, ValueError), (True, TypeError), ("3", TypeError), (1.5, TypeError), (numpy.bool_(True), TypeError)):
         with pytest.raises(error):
             client.count(All(), on=on)  # type: ignore[arg-type]
     with pytest.raises(TypeError):
         client.find(All(), All())  # type: ignore[arg-type]
+    with pytest.raises(TypeError, match="is no region"):
+        client.find(type("OwnWindow", (Window,), {})(0, 1, 0, 1))
     with pytest.raises(TypeError, match="a client can't be pickled"):
         pickle.dumps(client)
 
@@ -167,6 +173,118 @@ def test_no_service(tmp_path: Path) -> None:
     assert raised.value.filename == str(tmp_path / "none")
 
 
+@pytest.fixture
+def full(tmp_path: Path) -> Iterator[Any]:
+    """Where nobody takes connections: a Unix socket and one of TCP, each with as many waiting as it may have."""
+    with contextlib.ExitStack() as stack:
+
+        def filled(family: int, address: Any) -> socket.socket:
+            listening = stack.enter_context(socket.socket(family))
+            listening.bind(address)
+            listening.listen(0)
+            for _ in range(4):
+                waiting = stack.enter_context(socket.socket(family))
+                waiting.setblocking(False)
+                with suppress(BlockingIOError):
+                    waiting.connect(listening.getsockname())
+            return listening
+
+        yield filled(socket.AF_UNIX, str(tmp_path / "full")).getsockname(), filled(socket.AF_INET, ("127.0.0.1", 0)).getsockname()
+
+
+@pytest.mark.parametrize("is_tcp", [False, True])
+def test_a_service_that_takes_no_connections(full: Any, is_tcp: bool, monkeypatch: pytest.MonkeyPatch) -> None:
+    """A host may have several addresses: one deadline holds for all of them."""
+    address, real = full[is_tcp], socket.getaddrinfo
+    monkeypatch.setattr(socket, "getaddrinfo", lambda *given, **named: real(*given, **named) * 3)
+
+    async def ask() -> None:
+        await aio.Client(address, timeout=0.3).count(All())
+
+    for call in (lambda: Client(address, timeout=0.3), lambda: asyncio.run(ask())):
+        begun = time.monotonic()
+        with pytest.raises(TimedOut, match="0.3 seconds|in time"):
+            call()
+        assert 0.2 < time.monotonic() - begun < 0.8
+
+
+def test_a_host_with_several_addresses(full: Any, monkeypatch: pytest.MonkeyPatch, data: Path, serve: Serve) -> None:
+    """The next one is tried where there is no service."""
+    host, port = serve(data / "boxes.csv", "--tcp", "0").tcp
+    with socket.socket() as free:
+        free.bind((host, 0))
+        places = [(socket.AF_INET, socket.SOCK_STREAM, 0, "", it) for it in (free.getsockname(), (host, port))]
+        monkeypatch.setattr(socket, "getaddrinfo", lambda *_, **__: places)
+        with Client(("several", port), timeout=20) as client:
+            assert client.count(All()) == 5
+
+
+@pytest.mark.parametrize("timeout", [1e7, 1e12, math.inf])
+def test_long_timeouts(fake: Fake, timeout: float) -> None:
+    fake.acts = [answer, answer]
+    with Client(fake.path, timeout=timeout) as client:
+        assert client.count(All()) == 7
+
+    async def ask() -> int:
+        async with aio.Client(fake.path, timeout=timeout) as client:
+            return await client.count(All())
+
+    assert asyncio.run(ask()) == 7
+
+
+def test_more_files_than_select_takes(fake: Fake) -> None:
+    before = resource.getrlimit(resource.RLIMIT_NOFILE)
+    resource.setrlimit(resource.RLIMIT_NOFILE, (min(2000, before[1]), before[1]))
+    files: list[int] = []
+    try:
+        while not files or files[-1] < 1024:
+            files.append(os.open("/dev/null", os.O_RDONLY))
+        fake.acts = [answer]
+        with Client(fake.path, timeout=20) as client:
+            assert [client.count(All()), client.count(All())] == [7, 7]
+    finally:
+        for it in files:
+            os.close(it)
+        resource.setrlimit(resource.RLIMIT_NOFILE, before)
+
+
+@pytest.mark.parametrize("text", [b"x\nok 1 7\n", b"ok 1 x\n", b"ok 9 7\nok 1 7\n", b"error 1 Q4 \xff\n", b"1.5 0\nok 1 1\n", b"ok 1 7 8\n"])
+def test_what_is_no_reply(fake: Fake, text: bytes) -> None:
+    """Nothing more is read from such a connection."""
+    fake.acts = [say(text), answer, say(text), answer]
+    with Client(fake.path, timeout=20) as client:
+        with pytest.raises(Disconnected, match="no reply of a service: b"):
+            client.find(All())
+        assert client.count(All()) == 7
+
+    async def ask() -> int:
+        async with aio.Client(fake.path, timeout=20) as client:
+            with pytest.raises(Disconnected, match="no reply of a service: b"):
+                await client.find(All())
+            return await client.count(All())
+
+    assert asyncio.run(ask()) == 7
+
+
+def test_a_reply_byte_by_byte(fake: Fake) -> None:
+    def act(connection: socket.socket) -> None:
+        connection.recv(1000)
+        for byte in b"12 0\n-3 18446744073709551616\nok 1 2\n":
+            connection.sendall(bytes([byte]))
+            time.sleep(0.001)
+        fake.be_silent(connection)
+
+    fake.acts = [act, act]
+    with Client(fake.path, timeout=20) as client:
+        assert client.nearest(2, 0, 0) == [(12, 0), (-3, 2**64)]
+
+    async def ask() -> Any:
+        async with aio.Client(fake.path, timeout=20) as client:
+            return await client.nearest(2, 0, 0)
+
+    assert asyncio.run(ask()) == [(12, 0), (-3, 2**64)]
+
+
 REASON = b"rtfilter-serve: silent for 600 seconds\n"
 
 
@@ -181,12 +299,33 @@ def test_a_service_that_closes(fake: Fake, text: bytes, why: str) -> None:
         assert client.count(All()) == 7
 
 
-def test_a_service_that_closed_between_two_calls(fake: Fake) -> None:
-    fake.acts = [lambda it: it.sendall(b"ok 1 7\n" + 0 * it.recv(100)), answer]
+@pytest.mark.parametrize("text", [b"", REASON])
+def test_a_service_that_closed_between_two_calls(fake: Fake, text: bytes) -> None:
+    """And perhaps said why."""
+
+    def act(connection: socket.socket) -> None:
+        connection.recv(100)
+        connection.sendall(b"ok 1 7\n")
+        asked.wait(20)
+        connection.sendall(text)
+
+    fake.acts, asked = [act, answer, act, answer], threading.Event()
     with Client(fake.path, timeout=20) as client:
         assert client.count(All()) == 7
+        asked.set()
         assert fake.closed.wait(20)
         assert client.count(All()) == 7
+
+    async def ask() -> None:
+        async with aio.Client(fake.path, timeout=20) as client:
+            assert await client.count(All()) == 7
+            asked.set()
+            assert await asyncio.to_thread(fake.closed.wait, 20)
+            await asyncio.sleep(0.05)
+            assert await client.count(All()) == 7
+
+    asked.clear(), fake.closed.clear()
+    asyncio.run(ask())
 
 
 def test_a_silent_service(fake: Fake) -> None:
@@ -323,6 +462,54 @@ def test_asyncio(fake: Fake) -> None:
                 await client.find(All())
 
     asyncio.run(ask())
+
+
+def test_a_close_while_asyncio_connects(fake: Fake, monkeypatch: pytest.MonkeyPatch) -> None:
+    """It leaves no connection open."""
+    fake.acts = [fake.be_silent]
+
+    async def ask() -> None:
+        reached, go_on, real = asyncio.Event(), asyncio.Event(), aio._opened
+
+        async def opened(address: Any) -> Any:
+            reached.set()
+            await go_on.wait()
+            return await real(address)
+
+        monkeypatch.setattr(aio, "_opened", opened)
+        client = aio.Client(fake.path, timeout=20)
+        task = asyncio.create_task(client.count(All()))
+        await reached.wait()
+        await client.close()
+        go_on.set()
+        with pytest.raises(Disconnected):
+            await task
+        assert await asyncio.to_thread(fake.closed.wait, 20)
+
+    asyncio.run(ask())
+
+
+def test_asyncio_calls_that_are_cancelled_anywhere(serve: Serve, data: Path) -> None:
+    """Others go on, by turns, and get their own replies."""
+    chance = random.Random(2)
+
+    async def ask(path: str) -> int:
+        cancelled = 0
+        async with aio.Client(path, timeout=20) as client:
+            for _ in range(300):
+                tasks = [asyncio.create_task(client.nearest(1 + at % 5, 0, 0)) for at in range(4)]
+                for _ in range(chance.randrange(12)):
+                    await asyncio.sleep(0)
+                chance.choice(tasks).cancel()
+                for at, found in enumerate(await asyncio.gather(*tasks, return_exceptions=True)):
+                    if isinstance(found, asyncio.CancelledError):
+                        cancelled += 1
+                    else:
+                        assert not isinstance(found, BaseException) and len(found) == 1 + at % 5
+            assert await client.size() == 5
+        return cancelled
+
+    assert asyncio.run(ask(serve(data / "boxes.csv", "--connections", "9000").path)) > 100
 
 
 def test_a_service_ends_while_its_last_connection_does(data: Path, serve: Serve) -> None:

@@ -79,8 +79,10 @@ def test_settings(tmp_path: Path, data: Path) -> None:
     with Rtfilter(os.fspath(table), header=True, fanout=2, max_entries=5) as boxes:
         assert boxes.levels() == [(3, 1), (2, 2), (1, 3), (0, 5)]
     for bad in ({"fanout": 1}, {"fanout": 65}, {"fanout": 2**70}, {"fanout": -1}, {"max_entries": 0}, {"max_entries": 2**24 + 1}):
-        with pytest.raises((ValueError, OverflowError)):
+        with pytest.raises(ValueError, match="^fanout is 2 to 64, and max_entries 1 to 16777216$"):
             Rtfilter(ROWS, **bad)
+    with pytest.raises(TypeError, match="^2.5 isn't a whole number$"):
+        Rtfilter(table, fanout=2.5)  # type: ignore[arg-type]
     with pytest.raises(ValueError, match="only a CSV file has a header"):
         Rtfilter(ROWS, header=True)
 
@@ -218,6 +220,8 @@ FRAME = pandas.DataFrame(ROWS, columns=NAMES)
         (FRAME.astype("Int64").replace(30, pandas.NA), "the table: row 2: <NA> isn't a whole number"),
         (7, "a table is the name of a file, rows, an array or a frame, and not 7"),
         ([ROWS[0], 7], "row 1: 7 isn't a row of id, min_x, max_x, min_y, max_y"),
+        (["1,0,1,0,1\n"], "row 0: '1,0,1,0,1\\n' isn't a row of id, min_x, max_x, min_y, max_y"),
+        ({"id": [1], "min_x": [0]}, "row 0: 'id' isn't a row of id, min_x, max_x, min_y, max_y"),
     ],
 )
 def test_other_types(table: Any, words: str) -> None:
@@ -230,7 +234,7 @@ def test_files_that_cannot_be_read(tmp_path: Path) -> None:
     for bad, error in ((tmp_path / "none", FileNotFoundError), (tmp_path, IsADirectoryError), (tmp_path / "a" / "b", FileNotFoundError)):
         with pytest.raises(error) as raised:
             Rtfilter(bad)
-        assert raised.value.filename == bad
+        assert raised.value.filename == os.fspath(bad) and repr(os.fspath(bad)) in str(raised.value)
     with pytest.raises(ValueError, match="null"):
         Rtfilter("a\0b")
 
