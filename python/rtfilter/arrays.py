@@ -162,9 +162,10 @@ class Queries:
     """Many queries of one kind, whose numbers are columns, packed as the library has them."""
 
     def __init__(self, region: type, columns: Columns, order: Order | None, first: int | None, on: Layers | None) -> None:
-        self.region, self.columns, self.order, self.first = region, columns, order, first
+        self.region, self.columns, self.order = region, columns, order
         self._members = MEMBERS[region]
         self._prototype = _engine.query_of(region, order, first, on)
+        self.first = None if first is None else index(first)
 
     def __len__(self) -> int:
         return len(self.columns[0]) if self.columns else 0

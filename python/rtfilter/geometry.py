@@ -189,7 +189,10 @@ def are_so(predicate: str, inputs: Objects, geometries: Objects) -> NDArray[nump
     for at, (one, other) in enumerate(zip(some, others)):
         if id(one) not in prepared:
             prepared[id(one)] = prep(one)
-        found[at] = getattr(prepared[id(one)], name)(other)
+        try:
+            found[at] = getattr(prepared[id(one)], name)(other)
+        except AttributeError:  # (which shapely 1.8 raises of an invalid geometry that is prepared)
+            found[at] = getattr(one, name)(other)
     return found
 
 

@@ -76,7 +76,8 @@ def ended(lines: bytes) -> bytes:
     """Lines of which the last one ends with a line feed too."""
     if isinstance(lines, str):
         raise TypeError("lines are bytes, and not a str: encode it")
-    return lines if not lines or lines.endswith(b"\n") else lines + b"\n"
+    whole = bytes(memoryview(lines))
+    return whole if not whole or whole.endswith(b"\n") else whole + b"\n"
 
 
 def renumbered(text: bytes, first: int) -> bytes:

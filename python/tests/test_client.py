@@ -128,6 +128,9 @@ def test_calls(client: Client, boxes: Rtfilter) -> None:
         client.find(All(), All())  # type: ignore[arg-type]
     with pytest.raises(TypeError, match="is no region"):
         client.find(type("OwnWindow", (Window,), {})(0, 1, 0, 1))
+    for text in ("count all", 5, None):
+        with pytest.raises(TypeError):
+            client.text(text)  # type: ignore[arg-type]
     with pytest.raises(TypeError, match="a client can't be pickled"):
         pickle.dumps(client)
 
@@ -139,7 +142,7 @@ def test_tcp(data: Path, serve: Serve) -> None:
 
 def test_long_texts_go_both_ways(client: Client, boxes: Rtfilter) -> None:
     text = b"find all\n" * 60_000
-    assert client.text(text) == boxes.text(text)
+    assert client.text(text) == boxes.text(text) == client.text(memoryview(text))
 
 
 @pytest.mark.parametrize("address", [5, None, ("localhost",), b"boxes.socket"])

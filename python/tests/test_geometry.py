@@ -268,6 +268,16 @@ def test_frames_with_different_crs() -> None:
         assert len(sjoin(left, geopandas.GeoDataFrame(geometry=[Point(0, 0)], crs=3857))) == 1
 
 
+@pytest.mark.parametrize("predicate", ["touches", "crosses", "overlaps"])
+def test_geometries_that_shapely_refuses(predicate: str) -> None:
+    """Its own error says why."""
+    one, other = Polygon([(3, 2), (5, 4), (5, 2), (3, 4)]), Polygon([(4, 3), (6, 5), (6, 3), (4, 5)])
+    with pytest.raises(Exception, match="invalid") as expected:
+        getattr(one, predicate)(other)
+    with pytest.raises(expected.type, match="invalid"):
+        STRtree([one]).query(other, predicate)
+
+
 def test_the_calls_of_shapely_2(monkeypatch: pytest.MonkeyPatch) -> None:
     """A stand-in for the functions of shapely 2 that are called, over shapely 1.8; they take arrays."""
     prepared: list[int] = []

@@ -143,6 +143,10 @@ def test_what_stands_for_a_number(three: "Tables") -> None:
     two: Any = Index()
     assert three.nearest(two, two, 0) == three.nearest(2, 2, 0) and three.find(All(), Near(two, 0), two) == three.find(All(), Near(2, 0), 2)
     assert three.find(Circle(two, two, two), first=two) == three.find(Circle(2, 2, 2), first=2) == [0]
+    for kind in (Window, Circle):
+        some = [(0, 30, 0, 9), (0, 9, 0, 9)] if kind is Window else [(0, 0, 9)]
+        same(three.find_each(some, region=kind, order=Near(two, 9), first=two), three.find_each(some, region=kind, order=Near(2, 9), first=2))
+    same(three.nearest_each([(0, 0), (9, 9)], two), three.nearest_each([(0, 0), (9, 9)], 2))
 
 
 @pytest.fixture
