@@ -13,7 +13,7 @@ from collections.abc import Iterable
 from types import TracebackType
 from typing import Any, Self
 
-from .client import PAUSE, Address, Parse, Parsed, name_of, named
+from .client import PAUSE, Address, Parse, Parsed, is_readable, name_of, named
 from .errors import Disconnected, TimedOut
 from .regions import All, Layers, Order, Region, count_line, find_line, nearest_line
 from .replies import MARKER, Answers, Reply, answers_of, cut, ended, is_whole, joined, listed, reason, renumbered
@@ -40,8 +40,8 @@ class Connection(asyncio.Protocol):
         self._news.set()
 
     def is_lost(self) -> bool:
-        """Whether the service closed it, or said something between two calls."""
-        return self._has_ended or bool(self._received)
+        """Whether the service closed it, or said something between two calls: the loop may not know it yet."""
+        return self._has_ended or bool(self._received) or is_readable(self._transport.get_extra_info("socket"))
 
     async def exchange(self, text: bytes, lines: int, name: str) -> bytes:
         """The replies to a text of so many lines, of which the last one is answered."""

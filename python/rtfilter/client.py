@@ -52,9 +52,7 @@ class Connection:
 
     def is_lost(self) -> bool:
         """Whether the service closed it, as far as is known between two calls."""
-        poll = select.poll()
-        poll.register(self._socket, select.POLLIN)
-        return bool(poll.poll(0))
+        return is_readable(self._socket)
 
     def exchange(self, text: bytes, lines: int, deadline: Deadline) -> bytes:
         """The replies to a text of so many lines, of which the last one is answered."""
@@ -243,6 +241,13 @@ def named(error: OSError, address: Address) -> OSError:
     if error.errno:
         error.filename = name_of(address)
     return error
+
+
+def is_readable(file: Any) -> bool:
+    """Whether something has come on a connection, or its end."""
+    poll = select.poll()
+    poll.register(file, select.POLLIN)
+    return bool(poll.poll(0))
 
 
 def connected(address: Address, deadline: Deadline) -> socket.socket:

@@ -2,8 +2,8 @@
 
 import os
 from array import array
-from collections.abc import Iterable
-from types import TracebackType
+from collections.abc import Iterable, Iterator
+from contextlib import contextmanager
 from typing import TYPE_CHECKING, Any, NoReturn, Self
 
 from . import _engine
@@ -165,18 +165,14 @@ class Rtfilter(_engine.Table, Closable, BulkCalls):
         return *numbers, None if scores is None else arrays.scores_of(scores, count)
 
 
-class _named:
+@contextmanager
+def _named(queries: "Queries") -> Iterator[None]:
     """Gives a QueryError of the extension the region at its place."""
-
-    def __init__(self, queries: "Queries") -> None:
-        self._queries = queries
-
-    def __enter__(self) -> None:
-        pass
-
-    def __exit__(self, kind: type[BaseException] | None, error: BaseException | None, trace: TracebackType | None) -> None:
-        if isinstance(error, QueryError) and error.place is not None:
-            raise QueryError(self._queries.at(error.place), error.place, error.code, error.text) from None
+    try:
+        yield
+    except QueryError as error:
+        assert error.place is not None
+        raise QueryError(queries.at(error.place), error.place, error.code, error.text) from None
 
 
 def _column(values: Any, what: str, count: int) -> "NDArray[Any]":
