@@ -4,6 +4,7 @@ import os
 from array import array
 from collections.abc import Iterable, Iterator
 from contextlib import contextmanager
+from itertools import islice
 from typing import TYPE_CHECKING, Any, NoReturn, Self
 
 from . import _engine
@@ -95,7 +96,7 @@ class Rtfilter(_engine.Table, Closable, BulkCalls):
     @classmethod
     def _open_rows(cls, rows: Iterable[Any], fanout: int, max_entries: int) -> Self:
         columns = [array(code) for code in CODES]
-        for record, row in enumerate(rows, 1):
+        for record, row in enumerate(islice(rows, MOST_ENTRIES + 1), 1):  # (one too many is enough)
             if not isinstance(row, Iterable) or isinstance(row, (str, bytes)):
                 raise TypeError(f"row {record - 1}: {row!r:.50} isn't a row of {', '.join(FIELDS[:5])}")
             fields = tuple(row)

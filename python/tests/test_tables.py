@@ -3,6 +3,7 @@
 import os
 import pickle
 import subprocess
+from itertools import repeat
 from pathlib import Path
 from typing import Any
 
@@ -11,7 +12,7 @@ import pandas
 import pytest
 from conftest import PROGRAM
 
-from rtfilter import All, RtfilterError, Rtfilter, Smallest, TableError, arrays
+from rtfilter import All, RtfilterError, Rtfilter, Smallest, TableError, arrays, table
 
 ROWS = [(1, 0, 10, 0, 10), (2, 5, 15, 5, 15), (3, 20, 30, 0, 10), (4, -5, -1, -5, -1), (5, 12, 12, 12, 12)]
 NAMES = ["id", "min_x", "max_x", "min_y", "max_y"]
@@ -147,6 +148,12 @@ def test_faulty_rows(rows: list[Any], fault: tuple[int, int, int]) -> None:
         with pytest.raises(TableError) as raised:
             Rtfilter(table, max_entries=3)
         assert (raised.value.kind, raised.value.record, raised.value.field) == fault
+
+
+def test_rows_without_end(monkeypatch: pytest.MonkeyPatch) -> None:
+    monkeypatch.setattr(table, "MOST_ENTRIES", 5)
+    with pytest.raises(TableError, match="^table record 6: too many entries$"):
+        Rtfilter(repeat(ONE), max_entries=5)
 
 
 def test_rows_that_are_not_whole() -> None:
