@@ -22,7 +22,7 @@ enum {
     MOST_VERTICES = 16,
 };
 
-static PyObject *table_error, *query_error; /* exceptions */
+static PyObject *table_error, *query_error, *layer_bits; /* exceptions, and the function that reads layers: from Python */
 
 /* ---- Tables and their sessions */
 
@@ -439,76 +439,26 @@ static bool put_limit(request *it, PyObject *number)
     return !PyErr_Occurred();
 }
 
-/* Whether it is a bool: one of numpy is no number of Python. */
-static bool is_bool(PyObject *number)
-{
-    if (PyLong_Check(number))
-        return PyBool_Check(number);
-    PyObject *name = PyType_GetName(Py_TYPE(number));
-    if (!name)
-        PyErr_Clear();
-    const bool is_named = name && (!PyUnicode_CompareWithASCIIString(name, "bool_") || !PyUnicode_CompareWithASCIIString(name, "bool"));
-    Py_XDECREF(name);
-    return is_named;
-}
-
-static bool add_layer(uint64_t *layers, PyObject *number)
+/* Puts layers as bits: a number that is one is read here, all else in Python. */
+static bool put_layers(request *it, PyObject *on)
 {
     int overflow;
-    if (is_bool(number)) {
-        PyErr_Format(PyExc_TypeError, "a layer is a whole number, and not %R", number);
-        return false;
+    const long layer = PyLong_CheckExact(on) ? PyLong_AsLongAndOverflow(on, &overflow) : -1;
+    if (layer >= 0 && layer < 64) {
+        it->query.layers = UINT64_C(1) << layer;
+        return true;
     }
-    PyObject *found = whole(number, NULL);
-    const long layer = found ? PyLong_AsLongAndOverflow(found, &overflow) : 0;
-    if (!found)
-        return false;
-    Py_DECREF(found);
-    if (overflow || layer < 0 || layer > 63) {
-        PyErr_Format(PyExc_ValueError, "a layer is 0 to 63, and not %R", number);
-        return false;
-    }
-    *layers |= UINT64_C(1) << layer;
-    return true;
-}
-
-/* Reads one layer, or an iterable of layers, as bits. */
-static bool read_layers(uint64_t *layers, PyObject *on)
-{
-    *layers = 0;
-    if (PyUnicode_Check(on) || PyBytes_Check(on)) {
-        PyErr_Format(PyExc_TypeError, "layers are whole numbers, and not %.200R", on);
-        return false;
-    }
-    PyObject *each = PyLong_Check(on) ? NULL : PyObject_GetIter(on), *layer;
-    if (!each && PyErr_Occurred() && !PyErr_ExceptionMatches(PyExc_TypeError))
-        return false;
-    if (!each) { /* no iterable */
-        PyErr_Clear();
-        return add_layer(layers, on);
-    }
-    bool is_sound = true;
-    while (is_sound && (layer = PyIter_Next(each))) {
-        is_sound = add_layer(layers, layer);
-        Py_DECREF(layer);
-    }
-    Py_DECREF(each);
-    if (!PyErr_Occurred() && !*layers)
-        PyErr_SetString(PyExc_ValueError, "no layer is given; None stands for all layers");
-    return !PyErr_Occurred();
-}
-
-/* layer_bits(layers): for query lines. */
-static PyObject *layer_bits(PyObject *Py_UNUSED(module), PyObject *on)
-{
-    uint64_t layers;
-    return read_layers(&layers, on) ? PyLong_FromUnsignedLongLong(layers) : NULL;
+    PyObject *bits = PyObject_CallFunctionObjArgs(layer_bits, on, NULL);
+    if (bits)
+        it->query.layers = PyLong_AsUnsignedLongLong(bits);
+    Py_XDECREF(bits);
+    return bits;
 }
 
 /* Puts the arguments after the region, as words of a query line come: the first fault is raised. */
 static bool put_rest(request *it, PyObject *order, PyObject *first, PyObject *on)
 {
-    return (on == Py_None || read_layers(&it->query.layers, on)) && (order == Py_None || put_order(it, order)) && (first == Py_None || put_limit(it, first));
+    return (on == Py_None || put_layers(it, on)) && (order == Py_None || put_order(it, order)) && (first == Py_None || put_limit(it, first));
 }
 
 /* Arguments by place, as many as are allowed, and those by their known names. */
@@ -1100,18 +1050,18 @@ static PyType_Slot polygons_slots[] = {
     {Py_tp_methods, polygons_methods}, {Py_tp_new, polygons_new}, {Py_tp_dealloc, polygons_free}, {0}};
 static PyType_Spec polygons_spec = {"rtfilter._engine.Polygons", sizeof(Polygons), 0, Py_TPFLAGS_DEFAULT, polygons_slots};
 
-/* know(classes, TableError, QueryError): the classes of regions and orders, in the order of `kinds`. They stand for the
+/* know(classes, TableError, QueryError, layer_bits): the classes of regions and orders, in the order of `kinds`. They stand for the
  * whole process, so that one interpreter of it has them. */
 static PyObject *know(PyObject *Py_UNUSED(module), PyObject *args)
 {
     static int64_t owner = -1;
     const int64_t interpreter = PyInterpreterState_GetID(PyInterpreterState_Get());
-    PyObject *classes, *one, *other;
+    PyObject *classes, *one, *other, *reader;
     if (owner >= 0 && owner != interpreter) {
         PyErr_SetString(PyExc_ImportError, "another interpreter of this process has imported rtfilter");
         return NULL;
     }
-    if (!PyArg_ParseTuple(args, "O!OO", &PyTuple_Type, &classes, &one, &other))
+    if (!PyArg_ParseTuple(args, "O!OOO", &PyTuple_Type, &classes, &one, &other, &reader))
         return NULL;
     if (PyTuple_Size(classes) != KINDS) {
         PyErr_SetString(PyExc_ValueError, "another number of classes");
@@ -1122,15 +1072,12 @@ static PyObject *know(PyObject *Py_UNUSED(module), PyObject *args)
         kinds[at].class = Py_NewRef(PyTuple_GetItem(classes, at));
     table_error = Py_NewRef(one);
     query_error = Py_NewRef(other);
+    layer_bits = Py_NewRef(reader);
     return Py_NewRef(Py_None);
 }
 
 static PyMethodDef functions[] = {
-    {"know", know, METH_VARARGS, NULL},
-    {"query_of", query_of, METH_VARARGS, NULL},
-    {"layer_bits", layer_bits, METH_O, NULL},
-    {0},
-};
+    {"know", know, METH_VARARGS, NULL}, {"query_of", query_of, METH_VARARGS, NULL}, {0}};
 static struct PyModuleDef definition = {PyModuleDef_HEAD_INIT, "rtfilter._engine", NULL, -1, functions, NULL, NULL, NULL, NULL};
 
 /* The members of a query that an array of queries sets: names, formats of numpy, and offsets. */

@@ -8,8 +8,6 @@ from collections.abc import Iterable
 from operator import index
 from typing import Any, NamedTuple, Self, Union
 
-from . import _engine
-
 LAYER_COUNT = 64
 
 
@@ -147,6 +145,29 @@ def nearest_line(k: int, x: int, y: int) -> str:
     return f"nearest {index(k)} {index(x)} {index(y)}"
 
 
+def layer_bits(on: Layers) -> int:
+    """Layers as bits of a number."""
+    if isinstance(on, (str, bytes)):
+        raise TypeError(f"layers are whole numbers, and not {on!r:.200}")
+    layers: Any = on
+    if not isinstance(on, Iterable) or getattr(on, "ndim", None) == 0:  # (an array may be a number)
+        layers = [on]
+    bits = 0
+    for layer in layers:
+        if type(layer).__name__ in ("bool", "bool_"):  # (numpy's own is no bool)
+            raise TypeError(f"a layer is a whole number, and not {layer}")
+        try:
+            number = index(layer)
+        except TypeError:
+            raise TypeError(f"{layer!r:.200} isn't a whole number") from None
+        if not 0 <= number < LAYER_COUNT:
+            raise ValueError(f"a layer is 0 to {LAYER_COUNT - 1}, and not {layer}")
+        bits |= 1 << number
+    if not bits:
+        raise ValueError("no layer is given; None stands for all layers")
+    return bits
+
+
 def _checked(value: Region | Order, kind: str) -> Region | Order:
     if type(value) not in (ORDERS if kind == "order" else REGIONS):
         raise TypeError(f"{value!r} is no {kind}")
@@ -157,5 +178,5 @@ def _on(on: Layers | None) -> list[str]:
     """The words of a list of layers."""
     if on is None:
         return []
-    bits = _engine.layer_bits(on)
+    bits = layer_bits(on)
     return ["on", ",".join(str(layer) for layer in range(LAYER_COUNT) if bits >> layer & 1)]

@@ -10,7 +10,7 @@ from typing import TYPE_CHECKING, Any, NoReturn, Self
 from . import _engine
 from .calls import BulkCalls, Closable
 from .errors import FIELD_COUNT, FLOATS, OUT_OF_RANGE, REPEATED, TOO_MANY, QueryError, TableError
-from .regions import ORDERS, REGIONS
+from .regions import ORDERS, REGIONS, layer_bits
 from .replies import Reply, cut, joined, listed
 
 if TYPE_CHECKING:
@@ -18,7 +18,7 @@ if TYPE_CHECKING:
 
     from .arrays import Columns, Queries
 
-_engine.know(REGIONS + ORDERS, TableError, QueryError)
+_engine.know(REGIONS + ORDERS, TableError, QueryError, layer_bits)
 
 FIELDS = ("id", "min_x", "max_x", "min_y", "max_y", "layer")
 FORMATS = ("i8", "i4", "i4", "i4", "i4", "u1")  # as numpy names them
