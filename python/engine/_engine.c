@@ -16,7 +16,7 @@ enum {
     FEW = 256,            /* answers that a session has a buffer for at first */
     FIRST = 1 << 13,      /* and many queries */
     MANY = 1 << 20,       /* answers, and bytes of a reply, that it keeps a buffer for */
-    STEP = 64,            /* queries of one call of the library, at most */
+    STEP = 64,            /* queries of one call of the library, or pairs, between two looks at the clock, at most */
     SLICE_NS = 10000000,  /* after so many nanoseconds a signal is looked for */
     AHEAD = 12,           /* answers between the one that is filtered and the one whose box is fetched */
     MOST_VERTICES = 16,
@@ -850,10 +850,13 @@ static PyObject *reply_of(worker *by, size_t len)
 {
     size_t copied;
     PyObject *reply = PyBytes_FromStringAndSize(NULL, (Py_ssize_t)len);
-    if (reply)
-        rtfilter_reply(&by->session, 0, PyBytes_AsString(reply), len, &copied);
+    char *into = reply ? PyBytes_AsString(reply) : NULL;
+    Py_BEGIN_ALLOW_THREADS
+    if (into)
+        rtfilter_reply(&by->session, 0, into, len, &copied);
     if (len > MANY)
         rtfilter_forget(&by->session);
+    Py_END_ALLOW_THREADS
     return reply;
 }
 
@@ -965,6 +968,16 @@ static bool holds(const Polygons *self, int64_t part, int64_t x, int64_t y)
     return is_odd;
 }
 
+/* Decides pairs from a place on until all are decided, or it is time to look for a signal: where the next one stands. */
+static Py_ssize_t hold_slice(const Polygons *self, const int64_t *parts, const int32_t *points, char *into, Py_ssize_t at, Py_ssize_t len)
+{
+    const int64_t begun = nanoseconds();
+    for (Py_ssize_t step = 1; at < len && nanoseconds() - begun < SLICE_NS; step = step < STEP ? 2 * step : STEP)
+        for (const Py_ssize_t end = len - at < step ? len : at + step; at < end; at++)
+            into[at] = holds(self, parts[at], points[2 * at], points[2 * at + 1]);
+    return at;
+}
+
 static bool is_part(const Polygons *self, int64_t part)
 {
     if (part >= 0 && part < self->lens[PARTS] - 1)
@@ -999,12 +1012,13 @@ static PyObject *polygons_holds_each(Polygons *self, PyObject *args)
     bool is_sound = views == 2;
     for (Py_ssize_t at = 0; is_sound && at < len; at++)
         is_sound = is_part(self, parts[at]);
-    if (is_sound && (all = PyByteArray_FromStringAndSize(NULL, len))) {
-        char *into = PyByteArray_AsString(all);
+    char *into = is_sound && (all = PyByteArray_FromStringAndSize(NULL, len)) ? PyByteArray_AsString(all) : NULL;
+    for (Py_ssize_t at = 0; all && at < len;) {
         Py_BEGIN_ALLOW_THREADS
-        for (Py_ssize_t at = 0; at < len; at++)
-            into[at] = holds(self, parts[at], points[2 * at], points[2 * at + 1]);
+        at = hold_slice(self, parts, points, into, at, len);
         Py_END_ALLOW_THREADS
+        if (PyErr_CheckSignals() < 0)
+            Py_CLEAR(all);
     }
     release(of, views);
     return all;
