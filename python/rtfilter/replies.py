@@ -3,7 +3,7 @@
 import os
 import re
 from collections.abc import Iterable
-from typing import NamedTuple, Union
+from typing import Any, NamedTuple, Union
 
 from .errors import Disconnected, QueryError
 
@@ -72,11 +72,16 @@ def answers_of(reply: Reply) -> Answers:
     return reply
 
 
-def ended(lines: bytes) -> bytes:
-    """Lines of which the last one ends with a line feed too."""
+def bytes_of(lines: Any) -> bytes:
+    """The bytes of query lines: a copy, if they could change meanwhile."""
     if isinstance(lines, str):
         raise TypeError("lines are bytes, and not a str: encode it")
-    whole = bytes(memoryview(lines))
+    return lines if isinstance(lines, bytes) else bytes(memoryview(lines))
+
+
+def ended(lines: bytes) -> bytes:
+    """Lines of which the last one ends with a line feed too."""
+    whole = bytes_of(lines)
     return whole if not whole or whole.endswith(b"\n") else whole + b"\n"
 
 

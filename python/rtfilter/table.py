@@ -11,7 +11,7 @@ from . import _engine
 from .calls import BulkCalls, Closable
 from .errors import FIELD_COUNT, FLOATS, OUT_OF_RANGE, REPEATED, TOO_MANY, QueryError, TableError
 from .regions import ORDERS, REGIONS, layer_bits
-from .replies import Reply, cut, joined, listed
+from .replies import Reply, bytes_of, cut, joined, listed
 
 if TYPE_CHECKING:
     from numpy.typing import NDArray
@@ -132,9 +132,7 @@ class Rtfilter(_engine.Table, Closable, BulkCalls):
 
     def text(self, lines: bytes) -> bytes:
         """What the program writes for the bytes of query lines. The call runs to its end, whatever signals come."""
-        if isinstance(lines, str):
-            raise TypeError("lines are bytes, and not a str: encode it")
-        return self._text(lines)
+        return self._text(bytes_of(lines))
 
     def replies(self, lines: Iterable[str]) -> list[Reply]:
         """The replies to query lines: Answers, a QueryError for a faulty line, None for a blank one and a comment."""

@@ -49,7 +49,7 @@ def test_scores_of_65_bits() -> None:
 
 def test_lines(boxes: Rtfilter) -> None:
     assert boxes.text(b"count all\nfind window 1") == b"ok 1 5\nerror 2 Q4 missing word\n" and boxes.text(b"") == b""
-    assert boxes.text(bytearray(b"count all")) == boxes.text(memoryview(b"count all")) == b"ok 1 5\n"
+    assert boxes.text(bytearray(b"count all")) == boxes.text(memoryview(b"lla tnuoc")[::-1]) == b"ok 1 5\n"
     first, second, third, fourth = boxes.replies(["count all", "", "find window 1", "nearest 2 12 12"])
     assert first == Answers([], [], 5) and second is None and fourth == Answers([2, 5], [0, 0], 2)
     assert isinstance(third, QueryError) and (third.query, third.code, third.text) == ("find window 1", "Q4", "missing word")
