@@ -18,7 +18,7 @@ from .regions import All, Circle, Covers, Inside, Layers, Near, Order, Window
 
 Columns = list[NDArray[Any]]
 
-ID, SIDES, LAYER = ("id",), ("min_x", "max_x", "min_y", "max_y"), ("layer",)
+SIDES = ("min_x", "max_x", "min_y", "max_y")
 BOUNDS = ("min_x", "min_y", "max_x", "max_y")
 POINT = ("x", "y")
 MEMBERS: dict[type, tuple[str, ...]] = {All: (), Window: SIDES, Inside: SIDES, Covers: SIDES, Circle: ("x", "y", "radius")}
@@ -52,7 +52,7 @@ def floats_of(value: Any, what: str, names: Sequence[str]) -> NDArray[numpy.floa
     """An array of floats: an array or a list of numbers, or the columns of a frame or an array with fields, by their names. Raises
     TypeError where something is no number, is masked, or a column is missing or there twice."""
     columns = _named(value, what, names)
-    array = _unmasked(_read(value, what), what) if columns is None else numpy.stack([_unmasked(it, what) for it in columns], axis=1)
+    array = _unmasked(_read(value, what), what) if columns is None else numpy.stack(columns, axis=1)
     if array.dtype.kind not in "biufO":
         raise TypeError(f"{what}: numbers are {array.dtype}")
     return numpy.asarray(array, "f8")
@@ -63,7 +63,7 @@ def _named(value: Any, what: str, required: Sequence[str], optional: Sequence[st
     names = value.columns if is_frame(value) else getattr(getattr(value, "dtype", None), "names", None)
     if names is None:
         return None
-    columns = [numpy.asanyarray(value[name]) for name in _found(list(names), what, required, optional)]
+    columns = [_unmasked(numpy.asanyarray(value[name]), what) for name in _found(list(names), what, required, optional)]
     if any(it.ndim != 1 for it in columns):
         raise TypeError(f"{what}: a column has one number for each row")
     return columns

@@ -12,7 +12,8 @@ import pandas
 import pytest
 from conftest import PROGRAM
 
-from rtfilter import All, RtfilterError, Rtfilter, Smallest, TableError, arrays, table
+from rtfilter import All, RtfilterError, Rtfilter, Smallest, TableError, arrays
+from rtfilter import table as module
 
 ROWS = [(1, 0, 10, 0, 10), (2, 5, 15, 5, 15), (3, 20, 30, 0, 10), (4, -5, -1, -5, -1), (5, 12, 12, 12, 12)]
 NAMES = ["id", "min_x", "max_x", "min_y", "max_y"]
@@ -151,7 +152,7 @@ def test_faulty_rows(rows: list[Any], fault: tuple[int, int, int]) -> None:
 
 
 def test_rows_without_end(monkeypatch: pytest.MonkeyPatch) -> None:
-    monkeypatch.setattr(table, "MOST_ENTRIES", 5)
+    monkeypatch.setattr(module, "MOST_ENTRIES", 5)
     with pytest.raises(TableError, match="^table record 6: too many entries$"):
         Rtfilter(repeat(ONE), max_entries=5)
 
