@@ -7,27 +7,34 @@ from html import escape
 from programs import OURS, SCAN
 from svg import LINE, REGION, SANS
 
-COLOURS = {
-    OURS: "#1f6feb",
-    "Boost.Geometry": "#2da44e",
-    "GEOS": "#bf8700",
-    "libspatialindex": "#8250df",
-    "SQLite's R*Tree": "#cf222e",
-    SCAN: "#768390",
+COLOURS = {  # of lines and dots, and the ink of names
+    OURS: ("#1f6feb", "blue"),
+    "Boost.Geometry": ("#2da44e", "green"),
+    "GEOS": ("#bf8700", "gold"),
+    "libspatialindex": ("#8250df", "purple"),
+    "SQLite's R*Tree": ("#cf222e", "red"),
+    SCAN: ("#768390", "grey"),
 }
 LEAST_GAP = 14  # between two labels
 LEFT, RIGHT, ABOVE, BELOW = 62, 132, 44, 40  # of a panel, round its lines
 
 
+def colours(name):
+    """The colour and the ink of a program, or of what its name begins with."""
+    return next((it for program, it in COLOURS.items() if name.startswith(program)), (LINE, "label"))
+
+
 def colour(name):
-    """The colour of a program, or of what its name begins with."""
-    return next((it for program, it in COLOURS.items() if name.startswith(program)), LINE)
+    return colours(name)[0]
 
 
-def text(x, y, words, anchor="start", size=12, fill=None, weight="normal"):
-    """A line of text, in the colour of labels or in another one."""
-    ink = f'fill="{fill}"' if fill else 'class="label"'
-    look = f'text-anchor="{anchor}" font-size="{size}" font-family="{SANS}" {ink} font-weight="{weight}"'
+def ink(name):
+    return colours(name)[1]
+
+
+def text(x, y, words, anchor="start", size=12, ink="label", weight="normal"):
+    """A line of text, in the ink of labels or in another one."""
+    look = f'text-anchor="{anchor}" font-size="{size}" font-family="{SANS}" class="{ink}" font-weight="{weight}"'
     return f'<text x="{x:.1f}" y="{y:.1f}" {look}>{escape(words)}</text>'
 
 
@@ -136,7 +143,7 @@ class Panel:
             # before its end where the line ends early
             away, anchor = (9, "start") if ends[name] == level.high else (-9, "end")
             end = level.place(ends[name]) + away
-            parts.append(text(end, place + 4, words, anchor, fill=colour(name), weight=weight))
+            parts.append(text(end, place + 4, words, anchor, ink=ink(name), weight=weight))
         return parts
 
 
@@ -165,7 +172,7 @@ class Dots:
                      f' fill="{REGION}" fill-opacity="0.08"/>')
         parts.append(text(one - 8, HEAD - 18, "← the other is faster", "end"))
         parts.append(text(one + 8, HEAD - 18, "rtfilter is faster →"))
-        parts.append(text(self.width - 8, HEAD - 18, "rtfilter", "end", fill=COLOURS[OURS], weight="bold"))
+        parts.append(text(self.width - 8, HEAD - 18, "rtfilter", "end", ink=ink(OURS), weight="bold"))
         for ten in scale.tens():
             parts.append(stroke(scale.place(ten), HEAD - 10, scale.place(ten), bottom, GRID if ten != 1 else AXIS))
             parts.append(text(scale.place(ten), bottom + 14, f"{ten:,g}", "middle"))
@@ -177,7 +184,7 @@ class Dots:
         parts, x = [], left
         for name in COLOURS:
             if name not in (OURS, SCAN):
-                parts += [dot(x, 42, name, 5), text(x + 10, 46, name, fill=colour(name))]
+                parts += [dot(x, 42, name, 5), text(x + 10, 46, name, ink=ink(name))]
                 x += 34 + 7 * len(name)
         return parts
 

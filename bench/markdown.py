@@ -127,15 +127,6 @@ def ids(found):
     return table(["ids", *(f"load, {name}" for name in names), "memory", "`find all`"], rows)
 
 
-def loads(found):
-    """The table of docs/tables.md."""
-    rows = [
-        [order, time_text(row["load"][OURS]), bytes_text(row["loaded"][OURS]["most"])]
-        for order, row in found["ids"]["rows"].items()
-    ]
-    return table(["ids", "load", "memory of the whole process"], rows)
-
-
 def instructions(found):
     it = found["instructions"]
     names = list(next(iter(it["lines"].values())))
@@ -213,7 +204,6 @@ TABLES = {
     "growth": (growth, ["growth"]),
     "largest": (largest, ["growth"]),
     "ids": (ids, ["ids"]),
-    "loads": (loads, ["ids"]),
     "instructions": (instructions, ["instructions"]),
     "queries": (queries, ["elsewhere"]),
     "changes": (changes, ["elsewhere", "growth"]),

@@ -22,7 +22,7 @@ from drawings import pictures
 from markdown import made_tables
 from programs import ROOT
 
-PAGES = ROOT / "README.md", ROOT / "docs/performance.md", ROOT / "docs/tables.md"
+PAGES = ROOT / "README.md", ROOT / "docs/performance.md"
 DRAWN = ROOT / "docs/pictures/measured"
 FIGURES = DRAWN / "figures.json"
 RESULTS = ROOT / "build/bench.json"

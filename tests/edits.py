@@ -27,6 +27,12 @@ ghost use Rattle.std.specs.Prelude.{◌≡◌, ◌+◌};
 
 const STEP: u16 = 3;
 
+/// Two numbers.
+pub struct Pair {
+    pub first: u8,
+    pub second: u8,
+}
+
 /// One more.
 pub fn one_more(number: u8) -> u16
     ensures more { result ≡ number + 1 }
@@ -55,19 +61,31 @@ pub fn same(number: u8) -> u8
     let found = number;
     found
 }
+
+/// A pair of one number.
+pub fn twice(number: u8) -> Pair
+    ensures both { result ≡ record {
+      first = number;
+      second = number;
+    } }
+{
+    let (first, second) = (number, number);
+    Pair { first, second }
+}
 """
-# The edits: the old line, the new one, and what each comes to.
-REFUSED, FAILS = "refused", "FAIL"
+# The edits: the old line, the new one, and what each comes to: whether it is refused in a check of several.
+REFUSED, ALONE, FAILS = "refused at", "refused alone at", "FAIL"
 EDITS = {
     "one_more_is_two_more": ("    u16::from(number) + 1", "    u16::from(number) + 2", REFUSED),
     "one_more_the_other_way": ("    u16::from(number) + 1", "    1 + u16::from(number)", FAILS),
     "two_more_is_three_more": ("    one_more(number) + 1", "    one_more(number) + 2", REFUSED),
     "two_more_the_other_way": ("    one_more(number) + 1", "    1 + one_more(number)", FAILS),
-    "step_of_a_constant": ("const STEP: u16 = 3;", "const STEP: u16 = 4;", REFUSED),
+    "step_of_a_constant": ("const STEP: u16 = 3;", "const STEP: u16 = 4;", ALONE),
     "same_is_nothing": ("    let found = number;", "    let found = 0;", REFUSED),
     "same_without_an_effect": ("    found", "    found + 0", FAILS),
     "same_not_compiled": ("    let found = number;", "    let found = another;", FAILS),
     "same_not_there": ("    let gone = number;", "    let gone = 0;", FAILS),
+    "twice_is_once": ("    let (first, second) = (number, number);", "    let (first, second) = (number, 0);", REFUSED),
 }  # fmt: skip
 # Wrong runners: what is planted, the text that is changed, what it becomes, and edits that show it.
 PLANTS = [
@@ -91,20 +109,20 @@ PLANTS = [
     ),
     (
         "two edits of a function are in one check",
-        "return name != there and name not in",
-        "return name not in",
+        "return name != there and not is_masked(name, there)",
+        "return not is_masked(name, there)",
         ["same_is_nothing", "same_without_an_effect"],
     ),
     (
         "any end but a proof is a refusal",
         "is_refused, text = refusal(edit, status, output)",
-        'is_refused, text = status != 0, "refused `anyhow`"',
+        'is_refused, text = status != 0, "refused at `anyhow`"',
         ["same_is_nothing", "same_not_compiled", "same_not_there"],
     ),
     (
         "a proof is a refusal",
         'return False, "NOT REFUSED: ',
-        'return True, "refused `NOT`: ',
+        'return True, "refused at `NOT`: ',
         ["same_is_nothing", "same_without_an_effect"],
     ),
     (
@@ -115,7 +133,7 @@ PLANTS = [
     ),
 ]  # fmt: skip
 # Of this plant the groups let a function and one that it calls be together.
-ALSO = {"a function that waits for another is refused": ("and name not in reached[there] and there not in reached[name]", "")}
+ALSO = {"a function that waits for another is refused": ("called in reached[caller] and not has_proof[caller]", "False")}
 
 
 def make_crate(folder):
@@ -146,8 +164,8 @@ def faults(names, status, lines):
     """Where what the runner says isn't what is said of these edits."""
     found = []
     for name in names:
-        fails = EDITS[name][2] == FAILS
-        pattern = rf"{'FAIL ' if fails else ''}{NAME}/{name}\.edit: {'.*' if fails else 'refused .*`.+`.*'}"
+        expected = EDITS[name][2]
+        pattern = rf"FAIL {NAME}/{name}\.edit: .*" if expected == FAILS else rf"{NAME}/{name}\.edit: {expected} `.+`.*"
         if sum(bool(re.fullmatch(pattern, line)) for line in lines) != 1:
             found.append(f"{name}: {next((it for it in lines if f'/{name}.' in it), 'not named')}")
     bad = sum(EDITS[name][2] == FAILS for name in names)

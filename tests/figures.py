@@ -16,8 +16,7 @@ QUOTES = [  # a page, words with {} for each figure, a table of docs/performance
         [(f"{table}: {query}", "rtfilter") for query in ("window", "nearest 10") for table in ("very different sizes", "uniform")],
     ),
     (TABLES, "A window takes {} over slabs", "tables", [("slabs: window", "rtfilter")]),
-    (TABLES, "Over crossing boxes a window takes {}.", "tables", [("crossing: window", "rtfilter")]),
-    (TABLES, "Loading crossing boxes took {} in this run", "tables", [("crossing: load", "rtfilter")]),
+    (TABLES, "Over crossing boxes a window takes {};", "tables", [("crossing: window", "rtfilter")]),
     (TABLES, "`count all` check every box: {} instead of {}.", "regions", [("all", "count on"), ("all", "count")]),
     (
         "docs/faq.md", "Boost and GEOS take {} and {} times as long for a window", "library",

@@ -24,7 +24,7 @@ sys.dont_write_bytecode = True
 import packing
 import reading
 import search
-from svg import ACCEPTED, LINE, MONO, NUMBER, REFUSED, REGION, RULE, SANS, WORD, svg
+from svg import ACCEPTED, LINE, MONO, NUMBER, REFUSED, REGION, RETURNED, RULE, SANS, WORD, svg
 
 # ---- railroad diagrams: each piece has a width, and a height above and below the track that runs through it
 
@@ -383,7 +383,7 @@ def scores():
 # ---- what is beside what
 
 CARD, CARD_GAP = 46, 34  # the height of a card, and the space below it
-PROVED, TESTED, YOURS = "#1a7f37", "#1f6feb", "#57606a"
+PROVED, TESTED, YOURS = RETURNED, "#1f6feb", "#57606a"
 
 
 def card(x, y, width, fill, name, what=""):
@@ -453,7 +453,7 @@ def reload():
             f'<text x="{start + 10:g}" y="{y + 18:g}" font-size="14" fill="#ffffff" font-family="{SANS}">{escape(name)}</text>',
         ]
 
-    moments = [(250, "SIGHUP"), (430, "new table stands"), (690, "last old connection ends")]
+    moments = [(250, "SIGHUP"), (430, "new table is loaded"), (690, "last old connection ends")]
     drawn = []
     for x, name in moments:
         drawn += [f'<line x1="{x}" y1="30" x2="{x}" y2="192" {BEYOND}/>', text(x, 22, name, anchor="middle")]
@@ -463,7 +463,7 @@ def reload():
         *bar(60, 690, 104, RULE, "a connection from before: answered from the old table"),
         *bar(460, 800, 136, PROVED, "a connection from after: the new table"),
         *bar(300, 640, 168, RULE, "a connection during the load: the old table"),
-        text(20, 222, "Old connections end at most --drain seconds after the new table stands. Until then both tables take memory."),
+        text(20, 222, "Old connections end at most --drain seconds after the new table is loaded. Until then both are in memory."),
     ]
     return svg(890, 236, "What is in memory while a service replaces its table", drawn)
 
@@ -562,11 +562,11 @@ def searched():
     parts.append(f'<circle cx="{x:g}" cy="{y:g}" r="4" fill="{REGION}"/>')
     for row, (score, is_entry, number) in enumerate(waiting):
         x, y = scene.place(52, 30 - 4 * row)
-        name = Stop(f"entry {number}", ACCEPTED, 14) if is_entry else Stop(f"node {letter(number)}", RULE, 3)
+        name = Stop(f"entry {number}", RETURNED, 14) if is_entry else Stop(f"node {letter(number)}", RULE, 3)
         parts += [*name.draw(x, y), scene.label(65.5, 30 - 4 * row, score)]
     parts.append(scene.label(58, 34, "waiting, with score"))
     opened_nodes, answers = listed(map(letter, opened)), listed(map(str, given))
-    title = f"Nodes {opened_nodes} are open, entries {answers} were given, and the first that waits is taken next"
+    title = f"Nodes {opened_nodes} are open, entries {answers} were returned, and the first that waits is taken next"
     return scene.picture(title, parts)
 
 

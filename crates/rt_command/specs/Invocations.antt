@@ -55,7 +55,7 @@ found >>= next = option_and_then next found
 abbrev pub is_given : (id : List ℕ) → List Row → Bool
 is_given id rows = option_map_or (λ text. bytes_eq text (codes "true")) (first_of id rows) false
 
--- the number that the text of an option writes, a sign and digits: clap has checked that it stands in its range
+-- the number that the text of an option writes, a sign and digits: clap has checked its range
 abbrev pub option_number : (id : List ℕ) → List Row → Option ℕ
 option_number id rows = option_map (λ text. unsigned_abs (signed_digits_value 10 text)) (first_of id rows)
 
@@ -92,7 +92,7 @@ HasNumber id low high rows =
     (text : List ℕ) × (first_of id rows ≡ Some text) × (one_of id rows ≡ Some (without_minus text))
     × IsSignedIn (pos low) (pos high) text
 
--- what is required or has a default is there, and the numbers stand in their ranges
+-- each required word and each one with a default is there, and the numbers are within their ranges
 pub record AreFilled (rows : List Row) : Type 0 where
   pub fanout : HasNumber (codes "fanout") least_fanout greatest_fanout rows
   pub max_entries : HasNumber (codes "max-entries") 1 most_entries rows

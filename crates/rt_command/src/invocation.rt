@@ -1,4 +1,4 @@
-//! What the words of the command line ask for.
+//! Parses the command line by clap.
 
 ghost use Rattle.std.specs.Prelude.{◌≡◌, ◌≤◌, ℕ, pos, [], Some, IfOk, IfErr, MatchResult, codes, option_map, IsTrue, false};
 ghost use Rattle.clap.specs.Words.{app_of, fault_of, first_of, found_of, matches_of, rows_of, rule_of, takes};
@@ -14,24 +14,24 @@ use clap::{Arg, ArgAction, ArgMatches, Command};
 use std::alloc::{AllocError, Global};
 use thiserror::Error;
 
-/// The fanout where the words give none.
+/// The default fanout.
 const DEFAULT_FANOUT: &str = "16";
 
-/// The most entries where the words don't say.
+/// The default for the most entries.
 const DEFAULT_MAX_ENTRIES: &str = "16777216";
 
-/// What the words ask for.
+/// A parsed command line.
 #[derive(Debug, Drop)]
 pub struct Invocation {
     /// The settings of the run.
     pub settings: Settings,
     /// The file of the table.
     pub table: Name,
-    /// The file of the queries; without one they come from standard input.
+    /// The file of the queries. `None` is standard input.
     pub queries: Option<Name>,
 }
 
-/// Why the words give no invocation.
+/// Why the words are no invocation.
 #[derive(Clone, Copy, Debug, Drop, Error, PartialEq, Eq)]
 pub enum ArgFault {
     /// They ask for help.
@@ -40,7 +40,7 @@ pub enum ArgFault {
     /// They are no command line of this program.
     #[error("bad command line")]
     Usage,
-    /// No memory was left.
+    /// Out of memory.
     #[error("out of memory")]
     Memory,
 }
@@ -72,22 +72,23 @@ impl From<clap::Error> for ArgFault {
     }
 }
 
-/// What the words of a command line ask for, the program's name before them:
+/// Parses the words of a command line, the program's name first:
 /// `rtfilter [-H|--header] [--fanout M] [--max-entries N] TABLE [QUERIES]`.
 ///
-/// M is a whole number from 2 to 64, 16 where none is given. N is one from 1 to 16,777,216, which is also
-/// what it is where none is given. The words mean what `clap` takes them to mean, its `-h` and `--help`
-/// included: each refusal of `clap` is [`ArgFault::Usage`], but for help and want of memory.
+/// M is an integer from 2 to 64, by default 16. N is an integer from 1 to 16,777,216, by default 16,777,216. The words mean
+/// what
+/// `clap` takes them to mean, its `-h` and `--help` included. Each refusal of `clap` other than help and out of memory is
+/// [`ArgFault::Usage`].
 pub fn settings_of(alloc: Global, words: &[Name]) -> Result<Invocation, ArgFault>
-    // The values are those that clap's own definition of the command's matches gives for the words.
+    // The values are those that clap's own definition of the command's matches has for the words.
     ensures ok { IfOk result (λ invocation. invocation_of words.now ≡ Some invocation) }
 
-    // There are some only where clap's definition allows no fault. Each refusal is want of memory or one
-    // of the kinds that clap allows for the words.
+    // There are values only if clap's definition allows no fault. Each refusal is out of memory or of one of the kinds that
+    // clap allows for the words.
     ensures faults { let kinds = fault_of filter_app words.now in
         MatchResult result (λ _. kinds ≡ []) (IsFaultAmong kinds) }
 
-    // Where clap takes the words, only memory can be wanting.
+    // If clap takes the words, the only refusal is out of memory.
     ensures takes { IfErr result
         (λ fault. IsTrue (takes filter_app words.now) → fault ≡ ArgFault.Memory) }
 {
@@ -99,7 +100,7 @@ pub fn settings_of(alloc: Global, words: &[Name]) -> Result<Invocation, ArgFault
     })
 }
 
-// The matches that clap gives for the words.
+// clap's matches for the words.
 fn parse<'a>(alloc: Global, words: &'a [Name]) -> Result<ArgMatches<'a>, ArgFault>
     ensures rows { IfOk result (λ m. rows_of (found_of m) ≡ matches_of filter_app words.entry.now) }
     ensures filled { IfOk result (λ m. AreFilled (rows_of (found_of m))) }
@@ -135,7 +136,7 @@ fn header_arg<'a>(alloc: Global) -> Arg<'a>
         .action(ArgAction::SetTrue)
 }
 
-// An option that takes a number, and has one where it isn't given.
+// An option with a number and a default.
 fn number_arg<'a>(
     alloc: Global,
     name: &'a str,
@@ -154,7 +155,7 @@ fn number_arg<'a>(
         .default_value(default)
 }
 
-// The whole numbers that a fanout may be.
+// The range of the fanout.
 fn fanout_parser<'a>() -> ValueParser<'a>
     ensures { result ≡ ValueParser.Signed (pos least_fanout) (pos greatest_fanout) }
 {
@@ -163,14 +164,14 @@ fn fanout_parser<'a>() -> ValueParser<'a>
     )
 }
 
-// The whole numbers that the most entries may be.
+// The range of the most entries.
 fn entries_parser<'a>() -> ValueParser<'a>
     ensures { result ≡ ValueParser.Signed (pos 1) (pos most_entries) }
 {
     clap::value_parser!(u32).range(1..=i64::from(Settings::MOST_ENTRIES))
 }
 
-// A word that is no option.
+// A positional argument.
 fn word_arg<'a>(alloc: Global, name: &'a str, required: bool) -> Arg<'a>
     ensures rule { rule_of result ≡ word_rule name.entry.now required }
     ensures local { result.global ≡ false }
@@ -180,7 +181,7 @@ fn word_arg<'a>(alloc: Global, name: &'a str, required: bool) -> Arg<'a>
         .action(ArgAction::Set)
 }
 
-// The settings that the matches give.
+// The settings in the matches.
 fn settings(matches: &ArgMatches<'_>) -> Settings
     requires { AreFilled (rows_of (found_of matches.now)) }
     ensures header { result.header ≡ is_given (codes "header") (rows_of (found_of matches.now)) }
@@ -192,7 +193,7 @@ fn settings(matches: &ArgMatches<'_>) -> Settings
     Settings::new(header(matches), fanout(matches), max_entries(matches)).unwrap()
 }
 
-// Whether the flag is given. A flag that isn't has the text `false`.
+// Whether the flag is set. A flag that isn't has the text `false`.
 fn header(matches: &ArgMatches<'_>) -> bool
     ensures { result ≡ is_given (codes "header") (rows_of (found_of matches.now)) }
 {
@@ -202,7 +203,7 @@ fn header(matches: &ArgMatches<'_>) -> bool
     }
 }
 
-// The fanout, given or by default: clap has checked that it stands in its range.
+// The fanout, set or by default. clap has checked its range.
 fn fanout(matches: &ArgMatches<'_>) -> u8
     requires { HasNumber (codes "fanout") least_fanout greatest_fanout
         (rows_of (found_of matches.now)) }
@@ -224,7 +225,7 @@ fn max_entries(matches: &ArgMatches<'_>) -> u32
     matches.get_one::<u32>("max-entries").unwrap()
 }
 
-// The name with this text, where there is one.
+// The name with this text, if there is a text.
 fn named(alloc: Global, text: Option<&str>) -> Result<Option<Name>, AllocError>
     ensures { IfOk result (λ name. name ≡ option_map (λ s. s.now) text.entry) }
 {

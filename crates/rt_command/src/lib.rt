@@ -1,7 +1,7 @@
-//! The command line: which settings, which table and which queries its words ask for.
+//! The command line: its options, and the files that it names.
 //!
-//! [`settings_of`] reads the words by clap, and what they mean is clap's own definition of a simple command's
-//! matches (`specs/Invocations.antt`). [`Settings`] are those of a run, each in its range (`specs/Choices.antt`).
+//! [`settings_of`] parses the words by clap; their meaning is clap's own definition of a simple command's matches
+//! (`specs/Invocations.antt`). [`Settings`] are those of a run, each in its range (`specs/Choices.antt`).
 #![tactic(auto)]
 
 mod invocation;

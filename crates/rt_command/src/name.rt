@@ -1,4 +1,4 @@
-//! A word of the command line.
+//! Owned words of the command line.
 
 ghost use Rattle.std.specs.Prelude.{◌≡◌, IfOk};
 
@@ -6,7 +6,7 @@ use std::alloc::{AllocError, Global};
 use std::convert::AsStr;
 use std::marker::Model;
 
-/// A text of its own, as a word of the command line or the name of a file.
+/// An owned text: a word of the command line or the name of a file.
 #[derive(Debug, Drop)]
 pub struct Name {
     text: String,
@@ -21,7 +21,7 @@ impl Model for Name {
 }
 
 impl Name {
-    /// The name with this text. An error means that no memory is left for it.
+    /// The name with this text. The error is out of memory.
     pub fn new(alloc: Global, text: &str) -> Result<Name, AllocError>
         ensures { IfOk result (λ name. name ≡ text.now) }
     {

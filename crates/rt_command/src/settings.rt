@@ -31,18 +31,17 @@ impl Model for Settings {
 }
 
 impl Settings {
-    /// The least number of children that a node may have.
+    /// The lowest fanout, the most children of a node.
     pub(crate) const LEAST_FANOUT: u8 = 2;
 
-    /// The greatest number of children that a node may have.
+    /// The highest fanout.
     pub(crate) const GREATEST_FANOUT: u8 = 64;
 
     /// The most entries that a table may have.
     pub(crate) const MOST_ENTRIES: u32 = Table::MOST_ENTRIES;
 
-    /// Settings with these values: whether the table's first record is a header, the most children of a
-    /// node (2 to 64) and the most entries of the table (1 to 16,777,216). `None` where one is out of its
-    /// range, and nowhere else.
+    /// Settings with these values: whether the table's first record is a header, the fanout (the most children of a node, 2
+    /// to 64) and the most entries of the table (1 to 16,777,216). `None` if and only if one is out of its range.
     pub fn new(header: bool, fanout: u8, max_entries: u32) -> Option<Settings>
         ensures { let given : Choices =
             record { header = header; fanout = fanout; max_entries = max_entries } in

@@ -1,9 +1,9 @@
--- What a pull and a push do to the bytes that a device tells.
+-- What a pull and a push do to the bytes of a device.
 use Rattle.std.specs.Prelude.{◌≡◌, ◌+◌, ℕ, Bool, List, take, Option, Some, IfSome, Result, MatchResult}
 use Rattle.std.specs.Io.KnownBytes.{Appends, Consumes, IsAtEnd, Keeps}
 
--- a pull of n bytes: the next n bytes stand at the front of the buffer, none only where none are to come; a failure
--- consumes nothing, and known bytes stay known
+-- a pull of n bytes: the next n bytes are at the front of the buffer, none only if none are to come; a failure consumes
+-- nothing, and known bytes stay known
 abbrev pub Pulls : {E : Type 0} → Option (List ℕ) → Option (List ℕ) → Result ℕ E → List ℕ → Type 0
 Pulls old new pulled buffer =
     MatchResult pulled (λ n. Consumes old new (take n buffer) × (n ≡ 0 → IsAtEnd new)) (λ _. Keeps old new)
@@ -13,7 +13,7 @@ abbrev pub Pushes : {E : Type 0} → Option (List ℕ) → Option (List ℕ) →
 Pushes old new pushed piece =
     MatchResult pushed (λ n. Appends old new (take n piece)) (λ _. Keeps old new)
 
--- so many pulls were made, where their number is still known
+-- `times` more pulls were made, if their number is still known
 abbrev pub PulledTimes : (times : ℕ) → (old new : Option ℕ) → Type 0
 PulledTimes times old new =
     IfSome new (λ now. (before : ℕ) × (old ≡ Some before) × (now ≡ before + times))
@@ -29,7 +29,7 @@ pub record Writer (W : Type 0) : Type 0 where
   pub failures : ℕ
   pub waits : Bool
 
--- bytes in memory that are to come, at most so many a pull
+-- bytes in memory that are to come, and the most that a pull returns
 pub record Slice : Type 0 where
   pub bytes : List ℕ
   pub piece : ℕ
@@ -39,7 +39,7 @@ pub record Slice : Type 0 where
   -- how many pulls were made, as far as 64 bits count
   pub pulls : Option ℕ
 
--- bytes that a buffer in memory has taken, at most so many a push
+-- bytes that a buffer in memory has taken, and the most that a push takes
 pub record Buffer : Type 0 where
   pub bytes : List ℕ
   -- how many more it can take

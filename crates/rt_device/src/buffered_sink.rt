@@ -7,10 +7,10 @@ use std::io::{BufWriter, Write};
 use std::marker::Model;
 
 /// A buffered writer of std as a sink. Each error of its `write` and `flush` is one failure, and so is each write that
-/// takes no byte. Bytes wait for a flush as long as its buffer holds them.
+/// takes no byte. Bytes wait for a flush while its buffer holds them.
 ///
-/// When it is dropped it writes what its buffer holds, as std's does, but only where no call has failed: what a failed
-/// write leaves in the buffer is given up, so that no write follows a failed one.
+/// On drop it writes what its buffer holds, as std's does, but only if no call has failed. Bytes that a failed write left
+/// in the buffer are dropped, so that no write follows a failed one.
 pub struct BufferedSink<W: Write + Drop> {
     writer: BufWriter<W>,
     failures: u64,
@@ -27,7 +27,7 @@ impl<W: Write + Drop> Model for BufferedSink<W> {
 }
 
 impl<W: Write + Drop> BufferedSink<W> {
-    /// The writer, none of its calls failed yet.
+    /// A sink over the writer, without failures so far.
     pub fn new(writer: BufWriter<W>) -> BufferedSink<W>
         ensures writer { result.device ≡ writer }
         ensures count { result.failures ≡ 0 }
@@ -79,7 +79,7 @@ impl<W: Write + Drop> Drop for BufferedSink<W> {
     fn drop(self) {
         let BufferedSink { writer, failures } = self;
         if failures > 0 {
-            // (in parts, since the whole would write when it is dropped)
+            // (taken apart, since the writer as a whole would write on drop)
             let (_writer, _given_up) = writer.into_parts();
         }
     }

@@ -1,9 +1,9 @@
-//! Where bytes come from and where they go.
+//! Byte sources and sinks that may fail.
 //!
-//! A [`Source`] gives bytes in pieces, a [`Sink`] takes them in pieces, and each call may fail. Contracts see
-//! the bytes that are to come or that are written, where a device reports them, and how many calls failed
-//! (`specs/Devices.antt`). [`ReadSource`] and [`WriteSink`] are readers and writers of std, [`BufferedSink`] is its
-//! buffered writer; [`SliceSource`] and [`SliceSink`] are memory, and fail at a call that is chosen beforehand.
+//! A [`Source`] returns bytes in pieces, a [`Sink`] takes them in pieces, and each call may fail. Contracts see the bytes
+//! that are to come or that are written, if a device reports them, and how many calls failed (`specs/Devices.antt`).
+//! [`ReadSource`] and [`WriteSink`] adapt readers and writers of std, [`BufferedSink`] adapts its buffered writer.
+//! [`SliceSource`] and [`SliceSink`] are in memory, and fail at a chosen call.
 #![tactic(auto)]
 
 mod buffered_sink;

@@ -1,4 +1,4 @@
-//! A reader of std as a source.
+//! Adapts a reader of std to a source.
 
 ghost use Rattle.std.specs.Prelude.{◌≡◌};
 
@@ -22,7 +22,7 @@ impl<R: Read> Model for ReadSource<R> {
 }
 
 impl<R: Read> ReadSource<R> {
-    /// The reader, none of its calls failed yet.
+    /// A source over the reader, without failures so far.
     pub fn new(reader: R) -> ReadSource<R>
         ensures reader { result.device ≡ reader }
         ensures count { result.failures ≡ 0 }

@@ -1,4 +1,4 @@
-//! Where answers go.
+//! The trait of byte sinks.
 
 ghost use Rattle.std.specs.{Io.KnownBytes.{Keeps}, Prelude.{◌≡◌, ◌+◌, ◌-◌, ◌<◌, ◌≤◌, ◌^◌, ℕ, Bool, List, Option, IfOk}};
 ghost use Rattle.std.specs.Prelude.{OnOk, OnErr, false, length};
@@ -8,18 +8,18 @@ ghost use Rattle.rt_device.specs.Devices.{Pushes};
 #[derive(Clone, Copy, Debug, PartialEq, Eq)]
 pub struct WriteFault;
 
-/// A place that takes bytes in pieces, and may fail.
+/// A destination that takes bytes in pieces, and may fail.
 pub trait Sink {
-    // The bytes written, where they are known.
+    // The bytes written, if known.
     ghost written: { Self → Option (List ℕ) };
 
-    // How many calls failed, each push that took no byte among them.
+    // How many calls failed; a push that took no byte counts as failed.
     ghost failed: { Self → ℕ };
 
-    // Whether bytes that were taken wait for a flush. A sink that hands on each byte at once leaves this out.
+    // Whether bytes that were taken wait for a flush. A sink that forwards each byte at once leaves this out.
     ghost waits: { Self → Bool } = { λ _. false };
 
-    /// Takes bytes from the front of the piece, and returns how many: 0 only where it failed.
+    /// Takes bytes from the front of the piece, and returns their number: 0 only after a failure.
     fn push(&mut self, piece: &[u8]) -> Result<usize, WriteFault>
         requires piece { 0 < length piece.now }
         requires count { failed self.old < 2 ^ 64 - 1 }
@@ -29,7 +29,7 @@ pub trait Sink {
         ensures took_none { IfOk result (λ n. n ≡ 0 → failed self.new ≡ failed self.old + 1) }
         ensures fails { OnErr result (failed self.new ≡ failed self.old + 1) };
 
-    /// Hands on what was taken. It takes no byte itself, and loses none where it fails.
+    /// Forwards the bytes that were taken. It takes none itself, and loses none if it fails.
     fn flush(&mut self) -> Result<(), WriteFault>
         requires { failed self.old < 2 ^ 64 - 1 }
         ensures bytes { Keeps (written self.old) (written self.new) }

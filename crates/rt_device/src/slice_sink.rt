@@ -1,4 +1,4 @@
-//! In-memory sink, with a failure on demand.
+//! In-memory sink with injectable failures.
 
 ghost use Rattle.std.specs.{Io.KnownBytes.{Keeps}, Prelude.{◌≡◌, ◌+◌, ◌-◌, ◌<◌, ◌≤◌, ◌^◌, ◌↔◌, ◌||◌, [], Some, IfOk}};
 ghost use Rattle.std.specs.Prelude.{IsErr, nat_lt, OnOk, OnErr, length, min, unwrap_or, if◌then◌else◌, IsTrue, false};
@@ -8,16 +8,16 @@ ghost use Rattle.rt_device.specs.Devices.{Pushes};
 use crate::sink::{Sink, WriteFault};
 use std::marker::Model;
 
-/// A buffer in memory as a sink: at most `piece` bytes a push, and one call, counted from 1, that fails.
+/// A buffer in memory as a sink. It takes at most `piece` bytes a push, and one call, counted from 1, may fail.
 #[derive(Drop)]
 pub struct SliceSink<'a> {
     buffer: &'a mut [u8],
     len: usize,
     piece: usize,
-    // The number, from 1, of the push or flush to come that fails; at 0 none does.
+    // which of the calls to come fails, from 1; 0 is none
     fails_in: u64,
     failures: u64,
-    // Whether bytes were taken since the last flush.
+    // whether bytes were taken since the last flush
     waits: bool,
 }
 
@@ -40,9 +40,9 @@ impl<'a> Model for SliceSink<'a> {
 }
 
 impl<'a> SliceSink<'a> {
-    /// This buffer, filled from its front, at most `piece` bytes a push, which is at least 1. Call number
-    /// `fail_at`, pushes and flushes counted together from 1, fails; at 0 or none, no call does. A push
-    /// takes 0 bytes where the buffer is full.
+    /// A sink over the buffer, filled from its front, with at most `piece` bytes a push, which is at least 1. Call number
+    /// `fail_at` fails; pushes and flushes are counted together, from 1. With 0 or `None` no call fails. A push takes 0 bytes
+    /// if the buffer is full.
     pub fn new(buffer: &'a mut [u8], piece: usize, fail_at: Option<u64>) -> SliceSink<'a>
         requires { 0 < piece }
         ensures { result ≡ record {
@@ -94,8 +94,8 @@ impl Sink for SliceSink<'_> {
 
     ghost waits = { λ s. s.waits };
 
-    // As the trait says, and beside that just which push fails, how many bytes each other one takes, and that they wait
-    // for a flush.
+    // As the trait says; also exactly which push fails, how many bytes each other push takes, and that these wait for a
+    // flush.
     fn push(&mut self, piece: &[u8]) -> Result<usize, WriteFault>
         requires piece { 0 < length piece.now }
         requires count { self.old.failures < 2 ^ 64 - 1 }
@@ -128,7 +128,7 @@ impl Sink for SliceSink<'_> {
         Ok(n)
     }
 
-    // As the trait says, and beside that just which flush fails. One that does leaves bytes waiting.
+    // As the trait says; also exactly which flush fails. Bytes wait after a failed flush.
     fn flush(&mut self) -> Result<(), WriteFault>
         requires { self.old.failures < 2 ^ 64 - 1 }
         ensures bytes { Keeps (Some self.old.bytes) (Some self.new.bytes) }

@@ -1,4 +1,4 @@
-//! In-memory source, with a failure on demand.
+//! In-memory source with injectable failures.
 
 ghost use Rattle.std.specs.Prelude.{◌≡◌, ◌+◌, ◌-◌, ◌<◌, ◌≤◌, ◌^◌, ◌↔◌, Some, IfOk, IsErr, OnOk, OnErr, length, min};
 ghost use Rattle.std.specs.Prelude.{unwrap_or};
@@ -7,15 +7,15 @@ ghost use Rattle.rt_device.specs.Devices.{PulledTimes, Pulls};
 use crate::source::{ReadFault, Source};
 use std::marker::Model;
 
-/// Bytes in memory as a source: at most `piece` of them a pull, and one pull, counted from 1, that fails.
+/// Bytes in memory as a source. It returns at most `piece` of them a pull, and one pull, counted from 1, may fail.
 #[derive(Drop)]
 pub struct SliceSource<'a> {
     bytes: &'a [u8],
     piece: usize,
-    // The number, from 1, of the pull to come that fails; at 0 none does.
+    // which of the pulls to come fails, from 1; 0 is none
     fails_in: u64,
     failures: u64,
-    // How many pulls were made, none where they are more than can be counted.
+    // the number of pulls made; `None` once it exceeds its type
     pulls: Option<u64>,
 }
 
@@ -37,8 +37,8 @@ impl<'a> Model for SliceSource<'a> {
 }
 
 impl<'a> SliceSource<'a> {
-    /// These bytes, at most `piece` a pull, which is at least 1. Pull number `fail_at`, from 1, fails; at
-    /// 0 or none, no pull does.
+    /// A source of these bytes, at most `piece` a pull, which is at least 1. Pull number `fail_at` fails, counted from 1.
+    /// With 0 or `None` no pull fails.
     pub fn new(bytes: &'a [u8], piece: usize, fail_at: Option<u64>) -> SliceSource<'a>
         requires { 0 < piece }
         ensures { result ≡ record {
@@ -66,7 +66,7 @@ impl Source for SliceSource<'_> {
 
     ghost pulled = { λ s. s.pulls };
 
-    // As the trait says, and beside that just which pull fails and how many bytes each other one gives.
+    // As the trait says; also exactly which pull fails, and how many bytes each other pull returns.
     fn pull(&mut self, buffer: &mut [u8]) -> Result<usize, ReadFault>
         requires buffer { 0 < length buffer.old }
         requires count { self.old.failures < 2 ^ 64 - 1 }

@@ -1,4 +1,4 @@
-//! Where query bytes come from.
+//! The trait of byte sources.
 
 ghost use Rattle.std.specs.Prelude.{◌≡◌, ◌+◌, ◌-◌, ◌<◌, ◌≤◌, ◌^◌, ℕ, List, Option, None, IfOk, OnOk, OnErr, length};
 ghost use Rattle.rt_device.specs.Devices.{PulledTimes, Pulls};
@@ -7,18 +7,18 @@ ghost use Rattle.rt_device.specs.Devices.{PulledTimes, Pulls};
 #[derive(Clone, Copy, Debug, PartialEq, Eq)]
 pub struct ReadFault;
 
-/// Bytes that come in pieces, from something that may fail.
+/// A source of bytes, which come in pieces. It may fail.
 pub trait Source {
-    // The bytes to come, where they are known.
+    // The bytes to come, if known.
     ghost coming: { Self → Option (List ℕ) };
 
     // How many pulls failed.
     ghost failed: { Self → ℕ };
 
-    // How many pulls were made, where that is known. A source that doesn't count them leaves this out.
+    // How many pulls were made, if known. A source that doesn't count them leaves this out.
     ghost pulled: { Self → Option ℕ } = { λ _. None };
 
-    /// Puts the next bytes at the front of the buffer, and returns how many: 0 only where none are to come.
+    /// Puts the next bytes at the front of the buffer, and returns their number: 0 only at the end.
     fn pull(&mut self, buffer: &mut [u8]) -> Result<usize, ReadFault>
         requires buffer { 0 < length buffer.old }
         requires count { failed self.old < 2 ^ 64 - 1 }

@@ -1,4 +1,4 @@
-//! A writer of std as a sink.
+//! Adapts a writer of std to a sink.
 
 ghost use Rattle.std.specs.{Io.KnownBytes.{Keeps}, Result.{result_unwrap_or}};
 ghost use Rattle.std.specs.Prelude.{◌≡◌, ◌+◌, ◌-◌, ◌<◌, ◌≤◌, ◌^◌, ◌||◌, IfOk, nat_lt, OnOk, OnErr, false, length};
@@ -14,7 +14,7 @@ use std::marker::Model;
 pub struct WriteSink<W: Write> {
     writer: W,
     failures: u64,
-    // Whether bytes were taken since the last flush.
+    // whether bytes were taken since the last flush
     waits: bool,
 }
 
@@ -27,7 +27,7 @@ impl<W: Write> Model for WriteSink<W> {
 }
 
 impl<W: Write> WriteSink<W> {
-    /// The writer, none of its calls made yet.
+    /// A sink over the writer, without calls so far.
     pub fn new(writer: W) -> WriteSink<W>
         ensures writer { result.device ≡ writer }
         ensures count { result.failures ≡ 0 }
@@ -48,7 +48,7 @@ impl<W: Write> Sink for WriteSink<W> {
 
     ghost waits = { λ s. s.waits };
 
-    // As the trait says, and beside that bytes that are taken wait for a flush.
+    // As the trait says; also that the bytes taken wait for a flush.
     fn push(&mut self, piece: &[u8]) -> Result<usize, WriteFault>
         requires piece { 0 < length piece.now }
         requires count { self.old.failures < 2 ^ 64 - 1 }
@@ -76,7 +76,7 @@ impl<W: Write> Sink for WriteSink<W> {
         }
     }
 
-    // As the trait says, and beside that a flush that failed leaves bytes waiting.
+    // As the trait says; also that bytes wait after a failed flush.
     fn flush(&mut self) -> Result<(), WriteFault>
         requires { self.old.failures < 2 ^ 64 - 1 }
         ensures bytes { Keeps (W.contents self.old.device) (W.contents self.new.device) }

@@ -48,7 +48,7 @@ in_columns columns = record {
   };
 }
 
--- what stands for the box at a place that a list hasn't
+-- a placeholder for the box at an index that a list doesn't have
 abbrev pub no_box : PlainBox
 no_box = record { id = pos 0; min_x = pos 0; max_x = pos 0; min_y = pos 0; max_y = pos 0; layer = 0 }
 
@@ -70,7 +70,7 @@ pub record AreRows (parts : Parts) : Type 0 where
   pub ids : (length parts.ids ≡ 0) ⊎ (length parts.ids ≡ length parts.rows)
   pub layers : (length parts.layers ≡ 0) ⊎ (length parts.layers ≡ length parts.rows)
 
--- what stands for the row at a place that a list hasn't
+-- a placeholder for the row at an index that a list doesn't have
 abbrev pub no_row : Row
 no_row = record { min_x = pos 0; min_y = pos 0; max_x = pos 0; max_y = pos 0 }
 

@@ -19,12 +19,12 @@ opened_by_text tree lines = opened_by_lines (loaded_tree tree) (numbered_lines l
 abbrev pub limit_within : (limit : Option ℕ) → (needed : ℕ) → ℕ
 limit_within limit needed = option_map_or (min needed) limit needed
 
--- how many nodes a find opens for a question, where so many of its answers are needed at most
+-- the number of nodes that a find for a question opens, if at most `needed` of its answers are needed
 abbrev pub opened_to_find : Packed → (needed : ℕ) → Question → ℕ
 opened_to_find tree needed question =
     opened_by_search (meaning_of question.region question.layers question.order) tree (Some (limit_within question.limit needed))
 
--- for one query after the other, where so many of all their answers are needed at most
+-- the same for one query after the other, if at most `needed` of all their answers are needed
 abbrev pub opened_by_finds : Packed → (vertices : List Vertex) → (needed : ℕ) → List PlainQuery → ℕ
 opened_by_finds tree vertices needed [] = 0
 opened_by_finds tree vertices needed (query ∷ queries) =

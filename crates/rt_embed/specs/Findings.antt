@@ -25,7 +25,7 @@ list_of entries vertices query = option_map_or (answers_to entries) (question_of
 abbrev pub lists_of : List Entry → (vertices : List Vertex) → (skip : ℕ) → List PlainQuery → List Answer
 lists_of entries vertices skip queries = drop skip (flat_map (list_of entries vertices) queries)
 
--- where the lists of the first queries end, so many of them
+-- the ends of the lists of the first `count` queries
 abbrev pub ends_of : List Entry → (vertices : List Vertex) → (skip : ℕ) → List PlainQuery → ℕ → List ℕ
 ends_of entries vertices skip queries zero = []
 ends_of entries vertices skip queries (suc k) =
@@ -42,7 +42,7 @@ score_of answer = record { low = answer.1 % 2 ^ 64; high = answer.1 / 2 ^ 64 }
 abbrev pub Begins : {X : Type 0} → (array list : List X) → Type 0
 Begins array list = take (length list) array ≡ take (length array) list
 
--- why no more queries are answered: there are none, the next answer has no place, or the next query asks no question
+-- why a find stopped: no query is left, the next answer has no place, or the next query is invalid
 abbrev pub StopsFor : Stop → (entries : List Entry) (vertices : List Vertex) (skip : ℕ) (queries : List PlainQuery) (ids : List ℤ)
     → (done found : ℕ) → Type 0
 StopsFor Complete entries vertices skip queries ids done found =
@@ -53,8 +53,8 @@ StopsFor Full entries vertices skip queries ids done found =
 StopsFor BadQuery entries vertices skip queries ids done found =
     (found ≡ length (lists_of entries vertices skip (take done queries))) × AsksNone vertices queries done
 
--- what stands in the arrays: the answers to the queries, as many as were found; where the list of each query that is answered
--- ends, as far as that has a place; and why there are no more
+-- what is in the arrays: the answers to the queries, as many as were found; the end of each complete query's list, as far
+-- as that has a place; and why the find stopped
 pub record HasFound (entries : List Entry) (vertices : List Vertex) (skip : ℕ) (queries : List PlainQuery) (ends : List ℕ)
     (ids : List ℤ) (scores : List Score) (result : Found) : Type 0 where
   pub few : result.found ≤ length (lists_of entries vertices skip queries)

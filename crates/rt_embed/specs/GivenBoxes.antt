@@ -15,7 +15,7 @@ use Rattle.rt_text.specs.declared.tables.TableFault.{TableFault}
 use Rattle.rt_text.specs.declared.tables.TableFault.TheVariants as fault
 use Rattle.rt_embed.specs.declared.boxes.PlainBox.{PlainBox}
 
--- so many boxes, each at a place
+-- a number of boxes, each at an index
 pub record Given : Type 0 where
   pub len : ℕ
   pub box_at : (place : ℕ) → PlainBox
@@ -28,7 +28,7 @@ entry_of number box =
     else if int_lt box.max_y box.min_y then Err (fault.MinAboveMax number axis.Y)
     else Ok (record { id = box.id; bounds = rect_of box.min_x box.max_x box.min_y box.max_y; layer = box.layer })
 
--- the first entries, so many of them: the box at a place, counted from 0, is record `place + 1`
+-- the entries of the first boxes, up to a number of them: the box at an index, from 0, is record `index + 1`
 abbrev pub entries_upto : Given → ℕ → Result (List Entry) TableFault
 entries_upto given zero = Ok []
 entries_upto given (suc place) = do
@@ -41,7 +41,8 @@ abbrev pub without_repeat : List Entry → Option ℕ → Result (List Entry) Ta
 without_repeat entries None = Ok entries
 without_repeat entries (Some place) = Err (fault.Repeated (place + 1))
 
--- the table: no more entries than the most, each sound by itself, and then no id twice. What comes first of these is the fault
+-- the table: first no more entries than the maximum and each of them valid, then no repeated id. The first of these that
+-- fails is the fault
 abbrev pub table_of : (max : ℕ) → Given → Result (List Entry) TableFault
 table_of max given = if nat_lt max given.len then Err (fault.TooMany (max + 1)) else do
   entries ← entries_upto given given.len

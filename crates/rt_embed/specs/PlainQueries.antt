@@ -35,7 +35,7 @@ abbrev pub no_polygon : PolygonFault → InvalidQuery
 no_polygon fault.Count = VertexCount
 no_polygon fault.NotConvex = NotConvex
 
--- the polygon whose vertices stand in the list from a place on, if there are so many and they make one
+-- the polygon whose vertices are in the list from an index on, if the list has all of them and they make one
 abbrev pub polygon_in : (vertices : List Vertex) → PlainQuery → Result (List Point) InvalidQuery
 polygon_in vertices query =
     if nat_le (query.first_vertex + query.vertices) (length vertices)

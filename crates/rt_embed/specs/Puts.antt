@@ -19,16 +19,16 @@ pub record IsPutBehind (list : List Answer) (from end : ℕ) (is_whole : Bool) (
   pub whole : is_whole ≡ true → end ≡ from + length list
   pub cut : is_whole ≡ false → (end ≡ length ids) × (end < from + length list)
 
--- the same of a list of which the first are passed over
+-- the same for a list whose first answers are skipped
 pub record IsPut (list : List Answer) (from to : Position) (ids ids' : List ℤ) (scores scores' : List Score) : Type 0 where
   pub put : IsPutBehind (drop from.skip list) from.end to.end to.is_whole ids ids' scores scores'
   pub skip : to.skip ≡ from.skip - length list
 
--- the first so many answers are found up to this limit: there is one at most so great, or fewer boxes than so many
+-- a search up to this limit finds the first `needed` answers: the limit is at least that, or there are fewer boxes
 abbrev pub IsWithin : (limit : Option ℕ) → (needed boxes : ℕ) → Type 0
 IsWithin (Some limit) needed boxes = limit ≤ needed
 IsWithin None needed boxes = boxes < needed
 
--- how many answers are needed at most from a place on: those that are passed over or have a place, and one
+-- the most answers that are needed from a position on: those that are skipped or have a place, and one
 abbrev pub needed_from : Position → (places : ℕ) → ℕ
 needed_from from places = from.skip + (places - from.end) + 1

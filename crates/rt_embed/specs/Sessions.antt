@@ -13,7 +13,7 @@ pub record Contents : Type 0 where
   pub reply : List ℕ
   pub opened : Option ℕ
 
--- there is a frontier, and if there was one before it is that one, in which so many nodes more were opened
+-- there is a frontier; if there was one before, it is that one, and `so_many` more nodes were opened in it
 abbrev pub HasOpened : (old : Option ℕ) → (so_many : ℕ) → (new : Option ℕ) → Type 0
 HasOpened old so_many new = IsSomeAnd new (λ after. IfSome old (λ before. CountsOn before so_many after))
 

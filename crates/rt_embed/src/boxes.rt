@@ -1,4 +1,4 @@
-//! Boxes in plain numbers, as a program in another language has them, and the table that they give.
+//! Boxes as plain numbers from a program in another language, and the table that they make.
 
 ghost use Rattle.std.specs.Prelude.{◌≡◌, ◌<◌, ◌≤◌, ℕ, All, IfErr, IfOk, Ok, length};
 ghost use Rattle.rt_geo.specs.Entries.{HasLayer};
@@ -22,25 +22,25 @@ pub struct PlainBox {
     pub layer: u8,
 }
 
-/// Boxes, each at a place: in arrays of whatever form.
+/// Arrays of boxes, in any layout.
 pub trait Boxes {
     ghost given: { Self → Given };
 
-    /// What holds of arrays that belong together.
+    /// What has to hold of the arrays: for example, equal lengths.
     ghost fit: { Self → Type 0 };
 
-    /// How many there are.
+    /// The number of boxes.
     fn len(&self) -> usize
         ensures { result ≡ (given self.now).len };
 
-    /// The box at a place, counted from 0.
+    /// The box at an index.
     fn box_at(&self, place: usize) -> PlainBox
         requires fit { fit self.now }
         requires inside { place < (given self.now).len }
         ensures { result ≡ (given self.now).box_at place };
 }
 
-/// The table of boxes, at most so many.
+/// The table of at most `max` boxes.
 pub(crate) fn table_of<B: Boxes>(alloc: Global, max: u32, boxes: &B) -> Result<Table, TableFault>
     requires fit { B.fit boxes.now }
     requires most { max ≤ most_entries }
@@ -59,7 +59,7 @@ pub(crate) fn table_of<B: Boxes>(alloc: Global, max: u32, boxes: &B) -> Result<T
     }
 }
 
-// The entries of boxes, whose ids aren't compared.
+// The entries of boxes, without comparing ids.
 fn entries_of<B: Boxes>(alloc: Global, boxes: &B) -> Result<Entries, TableFault>
     requires fit { B.fit boxes.now }
     requires few { (B.given boxes.now).len ≤ most_entries }
@@ -78,7 +78,7 @@ fn entries_of<B: Boxes>(alloc: Global, boxes: &B) -> Result<Entries, TableFault>
     Ok(entries)
 }
 
-// The entry that a box in a record is.
+// The entry of the box that is record `number`.
 fn entry_of(number: u32, plain: &PlainBox) -> Result<Entry, TableFault>
     ensures value { result ≡ entry_of number plain.now }
     ensures layer { IfOk result HasLayer }

@@ -2,7 +2,7 @@
 
 use crate::boxes::{Boxes, PlainBox};
 
-/// A table in columns that are equally long; no layers stand for layer 0 of each box.
+/// A table in columns of equal length; without layers each box is on layer 0.
 #[derive(Clone, Copy)]
 pub struct Columns<'a> {
     pub ids: &'a [i64],

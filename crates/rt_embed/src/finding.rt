@@ -1,4 +1,4 @@
-//! The answers to queries in numbers, in arrays that the caller has.
+//! Writes the answers to queries in numbers to arrays of the caller.
 //!
 //! No query is searched for more answers than have a place, and one.
 
@@ -22,22 +22,22 @@ use rt_tree::Tree;
 /// Why no more queries were answered.
 #[derive(Clone, Copy, Debug, PartialEq, Eq)]
 pub enum Stop {
-    /// All are answered.
+    /// All queries are answered.
     Complete,
-    /// There is no place for the next answer.
+    /// The arrays are full, and there is another answer.
     Full,
-    /// The next query asks no question.
+    /// The next query is invalid.
     BadQuery,
 }
 
-/// What was found.
+/// The result of a find.
 #[derive(Clone, Copy, Debug, PartialEq, Eq)]
 pub struct Found {
-    /// How many queries are answered whole.
+    /// The number of queries whose answers are complete.
     pub done: usize,
-    /// How many answers stand in the arrays.
+    /// The number of answers in the arrays.
     pub found: usize,
-    /// Why there are no more.
+    /// Why it ended.
     pub stop: Stop,
 }
 
@@ -83,19 +83,19 @@ pub(crate) fn find_each(
     (position.stopped(done, Stop::Complete), frontier)
 }
 
-// How far answers are put.
+// How far the arrays are filled.
 #[derive(Clone, Copy)]
 struct Position {
-    // where they end
+    // the index behind the last answer
     end: usize,
-    // how many of those to come are passed over
+    // how many of the next answers are skipped
     skip: usize,
-    // whether the last list is whole
+    // whether the last list is complete
     is_whole: bool,
 }
 
 impl Position {
-    // What was found, where this many queries are answered whole.
+    // The result after `done` complete queries.
     fn stopped(self, done: usize, stop: Stop) -> Found
         ensures { result ≡ record { done = done; found = self.end; stop = stop } }
     {
@@ -107,8 +107,8 @@ impl Position {
     }
 }
 
-// Puts the answers to a question behind those that are there. It is searched for as many as have places, and one more, which
-// says that there are too few.
+// Appends the answers to a question. It searches for as many as have places, and one more, which shows that there are too
+// few places.
 fn find_one(
     tree: &Tree,
     frontier: Frontier,
@@ -129,7 +129,7 @@ fn find_one(
     put_up_to(tree, frontier, question, limit, from, ids, scores)
 }
 
-// Puts the answers to a question up to a limit, in the place of its own.
+// Appends the answers to a question up to a limit, instead of its own.
 #[inline(always)]
 fn put_up_to(
     tree: &Tree,
@@ -165,8 +165,8 @@ fn put_up_to(
     )
 }
 
-// The least of a limit and of how many answers are needed: those that are passed over or have a place, and one. None where the
-// boxes are fewer than these.
+// The lower one of a limit and of the number of answers that are needed: those that are skipped or have a place, and one.
+// `None` if there are fewer boxes than that.
 fn limit_within(limit: Option<u64>, skip: usize, places: usize, boxes: u32) -> Option<u64>
     ensures within { IsWithin result (skip + places + 1) boxes }
     ensures least { MatchOption result (limit ≡ None)
@@ -182,7 +182,7 @@ fn limit_within(limit: Option<u64>, skip: usize, places: usize, boxes: u32) -> O
     }
 }
 
-// The answers to a question, in arrays, from a position on.
+// A job that writes the answers to a question to arrays, from an index on.
 #[derive(Drop)]
 struct PutAnswers<'a> {
     from: Position,
@@ -223,7 +223,7 @@ impl<'a> Job for PutAnswers<'a> {
     }
 }
 
-// Puts the answers of one geometry. Out of line, so that a query clears the locals of its own search alone.
+// Writes the answers of one geometry. Out of line, so that a query clears the locals of its own search alone.
 #[inline(never)]
 fn put_answers<G: Geometry + Drop>(
     tree: &Tree,
@@ -255,7 +255,7 @@ fn put_answers<G: Geometry + Drop>(
     (put, search.finish().0)
 }
 
-// Passes over the first answers to come, as many as there are at most. Returns how many are still to be passed over.
+// Skips the first answers to come, at most `skip`. Returns how many are still to be skipped.
 fn pass_over<'a, G: Geometry>(search: Search<'a, G>, skip: usize) -> (Search<'a, G>, usize)
     ensures to_come { result.0.to_come ≡ drop skip search.entry.to_come }
     ensures left { result.1 ≡ skip - length search.entry.to_come }
@@ -277,7 +277,7 @@ fn pass_over<'a, G: Geometry>(search: Search<'a, G>, skip: usize) -> (Search<'a,
     (search, left)
 }
 
-// Puts the answers to come behind those that end at a place. Returns where they end then, and whether all have a place.
+// Appends the answers to come. Returns the new end, and whether all had a place.
 fn put_rest<'a, G: Geometry>(
     search: Search<'a, G>,
     from: usize,
@@ -288,7 +288,7 @@ fn put_rest<'a, G: Geometry>(
     ensures put { IsPutBehind search.entry.to_come from result.1 result.2
         ids.old ids.new scores.old scores.new }
     ensures capacity { result.0.capacity ≡ search.entry.capacity }
-    // All is opened for all answers, and else what is for those that are put and one more.
+    // All nodes for all answers are opened if all had a place, otherwise those for the appended answers and one more.
     ensures worked { let searched = search.entry in result.2 ≡ true → result.0.opened
         ≡ opened_by_search (G.meaning searched.geometry) searched.tree searched.limit }
     ensures cut { let searched = search.entry in result.2 ≡ false → result.0.opened
@@ -309,7 +309,7 @@ fn put_rest<'a, G: Geometry>(
     (search, end, true)
 }
 
-// Puts an item at a place, if the array has it.
+// Writes an item at an index, if the array has it.
 fn put_at<T: Copy>(array: &mut [T], place: usize, item: T)
     ensures len { length array.new ≡ length array.old }
     ensures put { (before : List T) → length before ≡ place → Begins array.old before

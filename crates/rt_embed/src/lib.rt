@@ -1,8 +1,9 @@
 //! The engine in the memory of its caller.
 //!
-//! A [`Session`] has a loaded tree, which other sessions share, and a frontier and a reply of its own. [`Session::ask`] answers
-//! query lines with the text that the program writes for them; [`Session::find`] and [`Session::measure`] answer queries in
-//! numbers, many in one call. [`summary_of`] says how large a tree is. No pointer and no C is here.
+//! A [`Session`] has a loaded tree, which other sessions share, and a frontier and a reply of its own. [`Session::ask`]
+//! answers query lines with the text that the program writes for them; [`Session::find`] and [`Session::measure`] answer
+//! queries in numbers, many in one call. [`summary_of`] returns the size and the extent of a tree. There are no pointers
+//! and no C here.
 #![tactic(auto)]
 
 mod boxes;

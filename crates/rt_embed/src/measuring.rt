@@ -1,4 +1,4 @@
-//! How many boxes a query in numbers asks for, and what it costs.
+//! Counts, and the costs of queries in numbers.
 
 ghost use Rattle.std.specs.Prelude.{◌≡◌, ◌<◌, ◌≤◌, length, map, min, take};
 ghost use Rattle.rt_embed.specs.{Costs.{opened_by_measures, opened_to_measure}};
@@ -12,7 +12,7 @@ use rt_filter::{cost_of_count, cost_of_find, count_boxes};
 use rt_search::Frontier;
 use rt_tree::Tree;
 
-/// Measures one query after the other, as many as have places. It ends before the first that asks no question.
+/// Measures one query after the other, as many as have places. It ends before the first invalid one.
 pub(crate) fn measure_each(
     tree: &Tree,
     frontier: Frontier,

@@ -1,4 +1,4 @@
-//! Queries in plain numbers, as a program in another language has them.
+//! Queries as plain numbers from a program in another language, and their validation.
 
 ghost use Rattle.std.specs.Prelude.{◌≡◌};
 ghost use Rattle.rt_embed.specs.PlainQueries.{box_of, judged, layers_of, limit_of, order_of, polygon_in, region_of};
@@ -10,43 +10,43 @@ use rt_geo::{
     PolygonFault, Region, Smallest, Window,
 };
 
-/// A query in plain numbers. What its region or its order doesn't use is ignored.
+/// A query in plain numbers. Members that its region or its order doesn't use are ignored.
 #[repr(C)]
 #[derive(Clone, Copy, Debug, PartialEq, Eq)]
 pub struct PlainQuery {
-    /// Which region: 0 all, 1 window, 2 inside, 3 covers, 4 circle, 5 polygon.
+    /// The region: 0 all, 1 window, 2 inside, 3 covers, 4 circle, 5 polygon.
     pub region: u32,
-    /// Which order: 0 by id, 1 near, 2 smallest.
+    /// The order: 0 by id, 1 near, 2 smallest.
     pub order: u32,
-    /// The box of a window, of inside and of covers.
+    /// The box of window, inside and covers.
     pub min_x: i32,
     pub max_x: i32,
     pub min_y: i32,
     pub max_y: i32,
-    /// The centre of a circle, and how far the circle reaches from there.
+    /// The centre and the radius of a circle.
     pub x: i32,
     pub y: i32,
     pub radius: u32,
     /// The point of the order near.
     pub near_x: i32,
     pub near_y: i32,
-    /// The vertices of a polygon: where the first stands in a list of points, and how many there are.
+    /// The vertices of a polygon: the index of the first in a list of points, and their number.
     pub first_vertex: u32,
     pub vertices: u32,
-    /// 0, until it has a meaning.
+    /// Reserved: 0.
     pub reserved: u32,
-    /// Which layers, as bits, layer 0 being the lowest. There is at least one.
+    /// The layers as bits, layer 0 the lowest. At least one is set.
     pub layers: u64,
-    /// How many answers at most. The greatest number stands for no limit.
+    /// The most answers. The greatest number stands for no limit.
     pub limit: u64,
 }
 
 /// Why a query in plain numbers is invalid.
 #[derive(Clone, Copy, Debug, PartialEq, Eq)]
 pub enum InvalidQuery {
-    /// The number of the region is none of those.
+    /// There is no region with this number.
     Region,
-    /// The number of the order is none of those.
+    /// There is no order with this number.
     Order,
     /// The box has a minimum above its maximum.
     Sides,
@@ -54,17 +54,17 @@ pub enum InvalidQuery {
     VertexCount,
     /// The vertices aren't all in the list.
     MissingVertices,
-    /// The vertices make no strictly convex polygon, in either order.
+    /// The vertices make no strictly convex polygon, either way round.
     NotConvex,
-    /// There is no layer.
+    /// No layer is set.
     NoLayer,
-    /// What is reserved isn't 0.
+    /// A reserved member isn't 0.
     Reserved,
 }
 
 impl PlainQuery {
-    /// The question that the query asks, or the first reason why it is invalid: the region is judged first, then the order,
-    /// the layers, and what is reserved.
+    /// The question of the query, or the first reason why it is invalid: the region is checked first, then the order, the
+    /// layers, and the reserved member.
     pub fn question(&self, vertices: &[Vertex]) -> Result<Question, InvalidQuery>
         ensures { result ≡ judged vertices.now self.now }
     {

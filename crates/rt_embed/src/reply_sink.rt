@@ -5,7 +5,7 @@ ghost use Rattle.std.specs.Prelude.{◌≡◌, [], Some};
 use rt_filter::{Sink, WriteFault};
 use std::marker::Model;
 
-/// Bytes that are appended to a vector. A push fails only where there is no memory for it.
+/// A sink that appends to a vector. A push fails only if it runs out of memory.
 #[derive(Drop)]
 pub(crate) struct ReplySink {
     bytes: Vec<u8>,
@@ -21,7 +21,7 @@ impl Model for ReplySink {
 }
 
 impl ReplySink {
-    /// No bytes, in the memory of a vector.
+    /// An empty sink in the memory of a vector.
     pub(crate) fn new(buffer: Vec<u8>) -> ReplySink
         ensures { result ≡ record { bytes = []; failures = 0 } }
     {

@@ -1,8 +1,8 @@
-//! Boxes in rows: an array of whole boxes, or one of their sides in the order of other libraries.
+//! Boxes in rows: an array of whole boxes, or of their sides in the order that other libraries use.
 
 use crate::boxes::{Boxes, PlainBox};
 
-/// Whole boxes, one behind the other.
+/// An array of whole boxes.
 #[derive(Clone, Copy)]
 pub struct BoxList<'a> {
     pub boxes: &'a [PlainBox],
@@ -35,7 +35,7 @@ pub struct Row {
     pub max_y: i32,
 }
 
-/// Rows, with as many ids and layers: no ids stand for the places, counted from 0, and no layers for layer 0 of each box.
+/// Rows, with arrays of as many ids and layers. Without ids a box's id is its index; without layers each box is on layer 0.
 #[derive(Clone, Copy)]
 pub struct Rows<'a> {
     pub rows: &'a [Row],

@@ -1,4 +1,4 @@
-//! Scores in two words.
+//! Scores as two 64-bit words.
 
 ghost use Rattle.std.specs.Prelude.{◌≡◌, ◌%◌, ◌/◌, ◌^◌};
 

@@ -1,4 +1,4 @@
-//! Sessions of a table.
+//! Sessions: a shared tree with the working memory of one thread.
 
 ghost use Rattle.std.specs.Prelude.{◌≡◌, ◌<◌, ◌≤◌, ℕ, List, [], IfErr, IfOk, IfSome, IsOk, IsSome, IsTrue, OnErr, Some, None, ◌+◌, length, map, min, take, true};
 ghost use Rattle.rt_command.specs.Choices.{Choices};
@@ -24,14 +24,14 @@ use std::marker::Model;
 use std::mem;
 use std::sync::Arc;
 
-/// A loaded tree, which sessions share, and what one of them needs for itself: the memory of its searches, and its reply.
+/// A loaded tree, which sessions share, and what a session has of its own: the memory of its searches, and its reply.
 ///
-/// It is seen as the tree, the reply to the last text, and how many nodes were opened in its frontier. No call changes the
-/// tree. A call that finds no memory returns [`AllocError`], and the session can be used again.
+/// Contracts see the tree, the reply to the last text, and how many nodes were opened in its frontier. No call changes the
+/// tree. A call that runs out of memory returns [`AllocError`], and the session stays usable.
 #[derive(Drop)]
 pub struct Session {
     tree: Arc<Tree>,
-    // (none after a call that found no memory)
+    // (`None` after a call that ran out of memory)
     frontier: Option<Frontier>,
     reply: Vec<u8>,
 }
@@ -53,8 +53,8 @@ impl Model for Session {
 }
 
 impl Session {
-    /// The first session of a table that bytes give under settings, or why there is none: a fault of the table, with its
-    /// record and field, a failed read, which bytes in memory don't give, or that no memory was left.
+    /// The first session of a table in CSV under settings, or why there is none: a fault of the table with its record and
+    /// field, a failed read, which bytes in memory don't have, or out of memory.
     pub fn open(alloc: Global, settings: &Settings, table: &[u8]) -> Result<Session, RunFault>
         ensures loaded { IfOk result (λ session. HasLoaded settings.now table.now session.tree) }
         ensures reply { IfOk result (λ session. session.reply ≡ []) }
@@ -92,7 +92,7 @@ impl Session {
         Ok(Session::of_tree(alloc, tree, frontier)?)
     }
 
-    /// One more session of the same table, for another thread, with nothing replied.
+    /// Another session of the same table, for another thread, with an empty reply.
     pub fn share(&self, alloc: Global) -> Result<Session, AllocError>
         ensures { IfOk result (λ session. session ≡ record {
           tree = self.now.tree;
@@ -116,11 +116,11 @@ impl Session {
         &self.tree
     }
 
-    /// Answers query lines, a run of its own: they are numbered from 1, and the last needs no line feed. The reply is kept,
-    /// in the place of the last one. Returns whether some line is faulty. After an error nothing is kept.
+    /// Answers query lines, as a run of their own: they are numbered from 1, and the last needs no line feed. The reply is
+    /// kept, instead of the last one. Returns whether some line is faulty. After an error the reply is empty.
     #[tactic(auto, using(crate::proofs::Headline::run_of_table), unfolding(crate::specs::Costs::opened_by_text))]
     pub fn ask(&mut self, alloc: Global, queries: &[u8]) -> Result<bool, AllocError>
-        // What a run of the program writes for a table's bytes and these, where the tree is that of the table.
+        // What a run of the program writes for a table's bytes and these lines, if the tree is that of the table.
         ensures headline { IfOk result (λ bad. (choices : Choices) (table : List ℕ)
             → HasLoaded choices table self.old.tree
             → IsRunOf choices table queries.now self.new.reply bad) }
@@ -130,7 +130,7 @@ impl Session {
         ensures bad { IfOk result (λ bad. bad ≡ any_fault (numbered_lines queries.now true)) }
         ensures forgotten { IfErr result (λ _. self.new.reply ≡ []) }
         ensures tree { self.new.tree ≡ self.old.tree }
-        // The nodes that are opened are those of the lines, one after the other.
+        // The opened nodes are those of the lines, one after the other.
         ensures worked { IfOk result (λ _.
             HasOpened self.old.opened (opened_by_text self.old.tree queries.now) self.new.opened) }
     {
@@ -147,9 +147,9 @@ impl Session {
         }
     }
 
-    /// Finds the answers to queries, one list behind the other, but for the first `skip` of them all. Each id goes to `ids`, and
-    /// its score to `scores`; where the list of each query ends goes to `ends`. What has no place in `ends` or `scores` is left
-    /// out. Where the next answer has no place in `ids` the search ends.
+    /// Finds the answers to queries, one list after the other, without the first `skip` of them all. Each id is written to
+    /// `ids`, its score to `scores`, and the end of each query's list to `ends`. What has no place in `ends` or `scores` is
+    /// left out. The search ends when the next answer has no place in `ids`.
     pub fn find(
         &mut self,
         alloc: Global,
@@ -164,7 +164,7 @@ impl Session {
             queries.now ends.new ids.new scores.new found) }
         ensures untouched { OnErr result ((ends.new ≡ ends.old) × (ids.new ≡ ids.old)
             × (scores.new ≡ scores.old)) }
-        // No query is searched for more answers than are left out, have a place, or are the next one.
+        // No query is searched for more answers than those skipped, those with a place, and the next one.
         ensures worked { let needed = skip + length ids.old + 1 in IfOk result (λ found.
             HasOpened self.old.opened (opened_by_finds self.old.tree vertices.now needed
             (take (found.done + 1) queries.now)) self.new.opened) }
@@ -180,8 +180,8 @@ impl Session {
         Ok(found)
     }
 
-    /// Measures queries: how many boxes each asks for, or what it costs. Returns how many are measured: as many as have places,
-    /// or those before the first that asks no question.
+    /// Measures queries: how many boxes each selects, or what it costs. Returns how many are measured: as many as have
+    /// places, or those before the first invalid one.
     pub fn measure(
         &mut self,
         alloc: Global,
@@ -216,7 +216,7 @@ impl Session {
         self.reply.as_slice()
     }
 
-    /// Forgets the reply, and gives its memory back.
+    /// Clears the reply, and frees its memory.
     pub fn forget_reply(&mut self, alloc: Global)
         ensures { self.new ≡ record self.old { reply = [] } }
     {
@@ -239,7 +239,7 @@ impl Session {
         })
     }
 
-    // The frontier, a new one where the last call found no memory.
+    // The frontier, a new one if the last call ran out of memory.
     fn take_frontier(&mut self, alloc: Global) -> Result<Frontier, AllocError>
         ensures capacity { IfOk result (λ f. length self.old.tree.entries ≤ f.capacity) }
         ensures made { IsSome self.old.opened → IsOk result }

@@ -7,14 +7,14 @@ ghost use Rattle.rt_tree.specs.{Levels.{level_sizes}, Packed.{root_of}};
 use rt_geo::Bounds;
 use rt_tree::Tree;
 
-/// How large a tree is, and where its boxes lie.
+/// The size of a tree, and the extent of its boxes.
 #[derive(Clone, Copy, Debug, PartialEq, Eq)]
 pub struct Summary {
-    /// How many boxes it has.
+    /// The number of boxes.
     pub boxes: u32,
-    /// How many levels it has, that of the boxes included.
+    /// The number of levels, that of the boxes included.
     pub levels: u8,
-    /// The bounds of the root, the least box that holds all. `None` where there are no boxes.
+    /// The bounds of the root, the smallest box that contains all. `None` if there are no boxes.
     pub bounds: Option<Bounds>,
 }
 
@@ -32,7 +32,7 @@ pub fn summary_of(tree: &Tree) -> Summary
     }
 }
 
-// The bounds of the root: the least box that holds all.
+// The bounds of the root: the smallest box that contains all.
 #[tactic(auto, using(crate::proofs::Hulls::root_box, crate::proofs::Hulls::no_boxes))]
 fn hull_of_boxes(tree: &Tree) -> Option<Bounds>
     ensures { result ≡ reduce hull (map (λ e. e.bounds) tree.now.entries) }
@@ -43,7 +43,7 @@ fn hull_of_boxes(tree: &Tree) -> Option<Bounds>
     }
 }
 
-/// Writes how many boxes or nodes each level has, from the boxes up, as many as fit, and zeros into the rest.
+/// Writes the number of boxes or nodes of each level, from the boxes up, as many as fit, and zeros to the rest.
 pub fn copy_level_sizes(tree: &Tree, sizes: &mut [u32])
     ensures sizes { let levels = level_sizes (length tree.now.entries) tree.now.fanout in
         (level : ℕ) → level < length sizes.new
@@ -57,7 +57,7 @@ pub fn copy_level_sizes(tree: &Tree, sizes: &mut [u32])
     }
 }
 
-// How many boxes or nodes there are on a level; 0 above the root.
+// The number of boxes or nodes on a level; 0 above the root.
 fn size_of_level(tree: &Tree, level: usize) -> u32
     ensures { result ≡ get_or (level_sizes (length tree.now.entries) tree.now.fanout) level 0 }
 {

@@ -13,7 +13,7 @@ pub struct Vertex {
     pub y: i32,
 }
 
-/// The points of so many vertices, at the front.
+/// The points of the vertices, at the front.
 pub(crate) fn points_of(vertices: &[Vertex]) -> [Point; MOST_VERTICES]
     requires { length vertices.now ≤ MOST_VERTICES }
     ensures { take (length vertices.now) result ≡ map point_of vertices.now }

@@ -25,7 +25,7 @@ connection_of coming pull_failures pulls written push_failures waits source sink
   waits = waits sink;
 }
 
--- the accounts of one that was allowed so many pulls and may have ended by a fault of a read or of a write
+-- the accounts of a connection for which `allowed` pulls may be made, and which may have ended by a failed read or write
 pub record Accounts (old now : Connection) (allowed : ℕ) (OfRead OfWrite : Type 0) : Type 0 where
   -- each failure of the sink is reported, and no other
   pub pushes : (OfWrite → now.push_failures ≡ old.push_failures + 1) × (¬ OfWrite → now.push_failures ≡ old.push_failures)

@@ -33,7 +33,7 @@ pub record Known : Type 0 where
 abbrev pub SourceTells : (coming now : Option (List ℕ)) → Happened → Type 0
 SourceTells coming now what = Consumes coming now what.consumed × IfSome now (λ rest. rest ≡ what.rest)
 
--- at least so many bytes were consumed of those that were to come, where these are known
+-- at least `count` of the bytes to come were consumed, if these are known
 abbrev pub ConsumedAtLeast : (count : ℕ) → (old new : Option (List ℕ)) → Type 0
 ConsumedAtLeast count old new = (consumed : List ℕ) × Consumes old new consumed × (count ≤ length consumed)
 

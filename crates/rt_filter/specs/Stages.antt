@@ -45,11 +45,11 @@ Stops choices table other = ⊤
 abbrev pub line_feed : ℕ
 line_feed = 10
 
--- one pull gives at most so many bytes: those of a line and its line feed
+-- the most bytes that one pull returns: those of a line and its line feed
 abbrev pub most_pulled : ℕ
 most_pulled = longest_line + 1
 
--- the lines of these bytes, numbered on from so many
+-- the lines of these bytes, numbered from the number after this one
 abbrev pub lines_from : (number : ℕ) → List ℕ → (ended : Bool) → List (ℕ × List ℕ)
 lines_from number bytes ended = enumerate_from (number + 1) (lines_of_parts ended (slice_split is_line_feed bytes))
 

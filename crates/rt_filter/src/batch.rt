@@ -1,4 +1,4 @@
-//! Query lines of a text that is whole in memory.
+//! Answers query lines that are in memory as a whole.
 
 ghost use Rattle.std.specs.Prelude.{◌≡◌, ◌+◌, ◌-◌, ◌<◌, ◌≤◌, ◌^◌, ◌∷◌, ℕ, IfOk, OnOk, false, true, length};
 ghost use Rattle.rt_filter.specs.{Lines.{numbered_lines}, Pushes.{Pushed}, Stages.{lines_from, loaded_tree}};
@@ -12,11 +12,11 @@ use rt_search::Frontier;
 use rt_text::Parsed;
 use rt_tree::Tree;
 
-/// Answers the query lines of a text, and pushes the replies to a sink: a run of its own, whose lines are numbered from 1
-/// and of which the last needs no line feed. What was pushed is flushed at the end.
+/// Answers the query lines of a text, and pushes the replies to a sink. Lines are numbered from 1, and the last needs no
+/// line feed. The sink is flushed at the end.
 ///
-/// Returns whether some line is faulty, and the frontier for the next text. An error means that a push or the flush
-/// failed; the frontier is lost then. No call can fail with out of memory but the sink's.
+/// Returns whether some line is faulty, and the frontier for the next text. The error is a failed push or flush; the
+/// frontier is then dropped. Only the sink can run out of memory.
 pub fn answer_batch<K: Sink>(
     tree: &Tree,
     frontier: Frontier,
@@ -25,18 +25,18 @@ pub fn answer_batch<K: Sink>(
 ) -> Result<(bool, Frontier), WriteFault>
     requires capacity { length tree.now.entries ≤ frontier.capacity }
     requires sink_count { K.failed sink.old < 2 ^ 64 - 1 }
-    // The replies to all lines, over any entries whose packed tree this is; after a failed push or flush a prefix of them.
+    // The replies to all lines, over any entries whose packed tree this is; after a failed push or flush, a prefix of them.
     ensures replies { (loaded : Loaded) → tree.now ≡ tree_of loaded
         → Pushed K.written K.failed sink.old sink.new result
         (output loaded (numbered_lines text.now true)) }
     ensures bad { IfOk result (λ done. done.0 ≡ any_fault (numbered_lines text.now true)) }
-    // The nodes that are opened are those of the lines, one after the other.
+    // The opened nodes are those of the lines, one after the other.
     ensures worked { IfOk result (λ done. CountsOn frontier.opened
         (opened_by_lines (loaded_tree tree.now) (numbered_lines text.now true)) done.1.opened) }
     ensures capacity { IfOk result (λ done. done.1.capacity ≡ frontier.capacity) }
     ensures flushed { OnOk result (K.waits sink.old ≡ false → K.waits sink.new ≡ false) }
 {
-    // (called, so that it is known that the tree is the packed one of its own entries)
+    // (the call makes it known to the proof that the tree is the packed one of its own entries)
     let _ = tree.len();
     answer_text(tree, frontier, text, sink)
 }
@@ -72,7 +72,7 @@ fn answer_text<K: Sink>(
     Ok((progress.is_bad(), frontier))
 }
 
-// The first line, and what stands behind it and its line feed.
+// The first line, and what follows its line feed.
 fn split_line(bytes: &[u8]) -> (&[u8], &[u8])
     requires some { 0 < length bytes.now }
     ensures lines { (number : ℕ) → lines_from number bytes.now true

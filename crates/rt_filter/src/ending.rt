@@ -9,31 +9,31 @@ use rt_command::ArgFault;
 use rt_text::{RunFault, run_fault_line};
 use std::io::{self, Write};
 
-/// What help prints.
+/// The text of the help.
 const USAGE: &[u8] =
     b"usage: rtfilter [-H|--header] [--fanout M] [--max-entries N] TABLE [QUERIES]\n";
 
 /// How the program ends.
 #[derive(Clone, Copy, Debug, PartialEq, Eq)]
 pub enum Ending {
-    /// The run was made, and ended so.
+    /// The run was made, and has this outcome.
     Ran(Outcome),
     /// Help was requested, and printed.
     Helped,
     /// Help was requested, and couldn't be printed.
     NotHelped,
-    /// The words are none that the program takes.
+    /// The words are no valid command line.
     BadCommandLine,
     /// TABLE couldn't be opened.
     NoTable,
     /// QUERIES couldn't be opened.
     NoQueries,
-    /// There was no memory for the words or for the output's buffer.
+    /// Out of memory for the words or for the output's buffer.
     NoMemory,
 }
 
 impl Ending {
-    /// How the program ends where the words of the command line ask for no run. Help is printed.
+    /// How the program ends if the command line asks for no run. Prints the help if that was requested.
     pub fn without_run<W: Write>(fault: ArgFault, output: &mut W) -> Ending
         ensures ending { (result ≡ refusal_of fault)
             ⊎ ((fault ≡ ArgFault.Help) × (result ≡ Ending.NotHelped)) }
@@ -65,7 +65,7 @@ impl Ending {
         }
     }
 
-    /// Writes the line that reports it, and nothing where there is none.
+    /// Writes the line that reports it, if there is one.
     pub fn report<W: Write>(self, errors: &mut W) -> io::Result<()>
         ensures { OnOk result
             (Appends (W.contents errors.old) (W.contents errors.new) (report_of self)) }

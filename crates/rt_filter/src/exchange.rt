@@ -7,7 +7,7 @@ ghost use Rattle.rt_filter.specs.Exchanges.{AtStart, IsAnswered, nothing};
 use rt_device::{ReadFault, Sink, Source};
 use std::marker::Brand;
 
-/// What is known when serving begins.
+/// What is known at the start of serving.
 pub(crate) trait Start {
     ghost at_start: { AtStart };
 }
@@ -16,20 +16,20 @@ impl Start for Brand {
     ghost at_start = { nothing };
 }
 
-/// A source of queries whose replies go to a sink, which is pulled from only where all that was pulled before is answered.
+/// A source of queries whose replies go to a sink. It may be pulled from only after all that was pulled before is answered.
 pub(crate) trait Exchange<B: Start, K: Sink> {
-    // As of a source: the bytes to come, how many pulls failed, and how many were made.
+    // As for a source: the bytes to come, how many pulls failed, and how many were made.
     ghost coming: { Self → Option (List ℕ) };
 
     ghost failed: { Self → ℕ };
 
     ghost pulled: { Self → Option ℕ };
 
-    /// Puts the next bytes at the front of the buffer, and returns how many: 0 only where none are to come.
+    /// Puts the next bytes at the front of the buffer, and returns their number: 0 only at the end.
     fn pull_next(&mut self, sink: &K, buffer: &mut [u8]) -> Result<usize, ReadFault>
-        // The replies to the lines that are complete are written, and nothing else.
+        // The replies to all complete lines are written, and nothing else.
         requires answered { IsAnswered B.at_start (coming self.old) (K.written sink.now) }
-        // They are flushed too, if nothing waited for a flush when serving began.
+        // They are flushed too, if nothing waited for a flush at the start of serving.
         requires flushed { B.at_start.devices.waits ≡ false → K.waits sink.now ≡ false }
         requires buffer { 0 < length buffer.old }
         requires count { failed self.old < 2 ^ 64 - 1 }

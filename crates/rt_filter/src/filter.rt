@@ -1,4 +1,4 @@
-//! A whole run: a table and queries in, answers out.
+//! A whole run: loads a table, and answers the queries.
 
 ghost use Rattle.std.specs.Prelude.{◌≡◌, ◌+◌, ◌-◌, ◌<◌, ◌≤◌, ◌^◌, ◌⊎◌, ◌≢◌, ◌++◌, ℕ, List, Some, None, IfOk, IfErr};
 ghost use Rattle.std.specs.{Io.Buffered.{writer_buffer, writer_contents}, Option.{option_map_or}, Prelude.{IsTrue, MatchOption, [], length, if◌then◌else◌}};
@@ -19,14 +19,14 @@ use std::io::{BufWriter, Read, Write};
 /// How a run ended.
 #[derive(Clone, Copy, Debug, PartialEq, Eq)]
 pub struct Outcome {
-    /// 0 where all is well, 1 where some query line was faulty, 3 to 6 by the fault.
+    /// 0 if all is well, 1 if some query line was faulty, 3 to 6 by the fault.
     pub status: u8,
-    /// Why it ended early, where it did.
+    /// Why it ended early, if it did.
     pub fault: Option<RunFault>,
 }
 
-/// A run over readers and a buffered writer of std, in as many turns as can be counted. Returns the last two as well, as
-/// they are then. It is what the program does with its open files.
+/// A run over readers and a buffered writer of std, with as many turns as can be counted. Returns the reader of the queries
+/// and the writer too. The program calls it with its open files.
 pub fn run_std<T: Read + Drop, Q: Read + Drop, W: Write + Drop>(
     alloc: Global,
     settings: &Settings,
@@ -34,8 +34,8 @@ pub fn run_std<T: Read + Drop, Q: Read + Drop, W: Write + Drop>(
     queries: Q,
     answers: BufWriter<W>,
 ) -> (Outcome, ReadSource<Q>, BufferedSink<W>)
-    // As of `run`. Each failure of the reader of the queries or of the writer is reported, and no other; the queries are
-    // given up without one only once all turns are used up.
+    // As for `run`. Each failure of the reader of the queries or of the writer is reported, and no other. Without such a
+    // failure reading ends early only once all turns are used up.
     ensures headline { (all lines before : List ℕ) → T.remaining table ≡ Some all
         → Q.remaining queries ≡ Some lines → writer_contents W.contents answers ≡ Some before
         → result.0.fault ≢ Some RunFault.Memory
@@ -59,7 +59,7 @@ pub fn run_std<T: Read + Drop, Q: Read + Drop, W: Write + Drop>(
         ⊎ ((result.1.failures ≡ 1) × (result.0.fault ≡ Some RunFault.Read)) }
     ensures turns { result.0.fault ≡ Some RunFault.Read → result.1.failures ≡ 0
         → ConsumedAtLeast (2 ^ 64 - 1) (Q.remaining queries) (Q.remaining result.1.device) }
-    // What was pushed has left the buffer for the writer, if the buffer was empty before.
+    // All bytes that were pushed have left the buffer for the writer, if the buffer was empty before.
     ensures flushed { result.0.fault ≢ Some RunFault.Write
         → writer_buffer answers ≡ [] → writer_buffer result.2.device ≡ [] }
     ensures untouched { (fault : RunFault) → result.0.fault ≡ Some fault → fault ≢ RunFault.Read
@@ -82,8 +82,8 @@ pub fn run<R: Read + Drop, S: Source, K: Sink>(
 ) -> Outcome
     requires source_count { S.failed source.old < 2 ^ 64 - 1 }
     requires sink_count { K.failed sink.old < 2 ^ 64 - 1 }
-    // The headline. The three devices report their bytes, no growth was refused while the table was loaded, no read of it
-    // failed, no pull, push or flush failed, and the queries are fewer bytes than the turns.
+    // The headline. The three devices report their bytes, no allocation failed while the table was loaded, no read of it
+    // failed, no pull, push or flush failed, and the queries have fewer bytes than there are turns.
     ensures headline { (table queries before : List ℕ) → R.remaining reader ≡ Some table
         → S.coming source.old ≡ Some queries → K.written sink.old ≡ Some before
         → result.fault ≢ Some RunFault.Memory → result.fault ≢ Some (RunFault.Table TableFault.Read)
@@ -91,21 +91,22 @@ pub fn run<R: Read + Drop, S: Source, K: Sink>(
         → length queries < turns
         → (K.written sink.new ≡ Some (before ++ (run_of settings.now table queries).0))
         × (result ≡ (run_of settings.now table queries).1) }
-    // How a run ends, failures included: of the source and the sink, those that report their bytes report them then too.
-    // After a failed push or flush a prefix went out, after a failed pull or used-up turns the replies to the complete
-    // lines, and where the load fails, nothing.
+    // How a run ends, failures included: source and sink, if they reported their bytes before, report them at the end too.
+    // After a failed push or flush a prefix was written; after a failed pull or used-up turns the replies to the complete
+    // lines; after a failed load, nothing.
     ensures ending { (table : List ℕ) → R.remaining reader ≡ Some table → Ends settings.now table
         (record { coming = S.coming source.old; written = K.written sink.old })
         (record { coming = S.coming source.new; written = K.written sink.new }) result }
-    // The status is the fault's; without one it is 0 or 1. Out of memory is never reported as a fault of the table.
+    // The status is that of the fault; without a fault it is 0 or 1. Out of memory is never reported as a fault of the
+    // table.
     ensures status { MatchOption result.fault (result.status ≤ 1)
         (λ fault. result.status ≡ status_of fault) }
     ensures memory { result.fault ≢ Some (RunFault.Table TableFault.Memory) }
-    // What is reported of the devices' failures, the pulls that are made, and what waits for a flush.
+    // What is reported of the devices' failures, the pulls made, and what waits for a flush.
     ensures accounts { let of = connection_of S.coming S.failed S.pulled
         K.written K.failed K.waits in Accounts (of source.old sink.old) (of source.new sink.new)
         turns (result.fault ≡ Some RunFault.Read) (result.fault ≡ Some RunFault.Write) }
-    // A fault of neither the queries nor the output, so one of the load, leaves the queries unread, and nothing is written.
+    // After a fault of neither queries nor output, so one of the load, no query byte was read and nothing was written.
     ensures untouched { (fault : RunFault) → result.fault ≡ Some fault → fault ≢ RunFault.Read
         → fault ≢ RunFault.Write → (source.new ≡ source.old) × (sink.new ≡ sink.old) }
 {
@@ -139,7 +140,7 @@ pub fn load<R: Read + Drop>(
 }
 
 impl Outcome {
-    // How a run ends: with a fault, or without one, where some line was faulty or none.
+    // The outcome with a fault, or, without one, after faulty lines or none.
     fn new(bad: bool, fault: Option<RunFault>) -> Outcome
         ensures fault { result.fault ≡ fault }
         ensures status { result.status ≡ option_map_or status_of fault (if bad then 1 else 0) }

@@ -1,7 +1,7 @@
-//! The geometry that a query is searched by, chosen once for whatever is done with its boxes.
+//! Dispatches on the region and the order of a query: chooses its geometry once, for whatever is done with the boxes.
 //!
-//! The region and the order of a query are matched here and nowhere else, so that the check of each box is compiled for
-//! them. Of a query on some layers the region is matched for each box.
+//! Region and order are matched here and nowhere else, so that the check of each box is compiled for them. For a query on
+//! some layers the region is matched for each box.
 
 ghost use Rattle.std.specs.Prelude.{◌≡◌, ◌≤◌, ℕ, List, Option, length};
 ghost use Rattle.rt_geo.specs.Regions.{region_accepts, region_state};
@@ -15,23 +15,24 @@ use rt_geo::{Disc, Geometry, Guided, Layers, OnLayers, Order, Polygon, Region, S
 use rt_search::Frontier;
 use rt_tree::Tree;
 
-/// What is done with the boxes that a query asks for: they are listed, or counted.
+/// What is done with the boxes that a query selects: they are listed, or counted.
 ///
-/// [`with_geometry`] chooses one of several geometries that accept these boxes. The contract of a job speaks of what they
+/// [`with_geometry`] chooses one of several geometries that accept these boxes. The contract of a job refers to what they
 /// have in common: the answers, the count, and how many nodes a search and a count open.
 pub trait Job {
-    /// What it returns.
+    /// The type of its result.
     type Outcome;
 
     /// What a run requires of the job, the tree and the limit.
     ghost runs: { Self → Packed → Option ℕ → Type 0 };
 
-    /// How a run ends: of the job before and after, the frontier before, the answers up to the limit, how many nodes a
-    /// search for them opens, how many boxes a count finds, how many nodes that opens, and the outcome.
+    /// How a run ends: a relation of the job before and after, the frontier before, the answers up to the limit, the number
+    /// of nodes that a search for them opens, the number of boxes that a count finds and of nodes that it opens, and the
+    /// outcome.
     ghost does: { Self → Self → Workspace → (found : List Answer) → (opened_to_find : ℕ)
         → (count : ℕ) → (opened_to_count : ℕ) → Self.Outcome → Type 0 };
 
-    /// Runs the job by one geometry.
+    /// Runs the job over one geometry.
     fn run<G: Geometry + Drop>(
         &mut self,
         tree: &Tree,
@@ -47,7 +48,7 @@ pub trait Job {
             (length (accepted t.entries meaning)) (opened_by_count meaning t) result };
 }
 
-/// Runs a job over the boxes of a region that are on some layers, in an order and up to a limit.
+/// Runs a job over the boxes of a region on some layers, in an order and up to a limit.
 #[inline(always)]
 pub fn with_geometry<J: Job>(
     tree: &Tree,
@@ -65,9 +66,9 @@ pub fn with_geometry<J: Job>(
         (answers t.entries meaning limit) (opened_by_search meaning t limit)
         (length (accepted t.entries meaning)) (opened_by_count meaning t) result }
 {
-    // (called, so that it is known which layers the entries have)
+    // (the call makes the layers of the entries known to the proof)
     let _ = tree.len();
-    // (all layers are those of all entries: none is checked)
+    // (all layers: no layer needs a check)
     if layers.bits() == u64::MAX {
         return with_region(tree, frontier, region, order, limit, job);
     }
@@ -78,7 +79,7 @@ pub fn with_geometry<J: Job>(
     with_shape(tree, frontier, shape, order, limit, job)
 }
 
-// Runs a job over the boxes of a region. A circle whose order is by the distance from its centre takes one distance for both.
+// Runs a job over the boxes of a region. A circle in order of distance from its centre computes one distance for both.
 #[inline(always)]
 fn with_region<J: Job>(
     tree: &Tree,
@@ -109,8 +110,8 @@ fn with_region<J: Job>(
     }
 }
 
-// Runs a job over the boxes that a polygon overlaps, which is prepared where it can be. A function of its own, so that no other
-// query clears the memory of a prepared polygon.
+// Runs a job over the boxes that overlap a polygon, prepared if possible. A function of its own, so that no other query
+// clears the memory of a prepared polygon.
 #[inline(always)]
 fn with_polygon<J: Job>(
     tree: &Tree,
@@ -134,7 +135,7 @@ fn with_polygon<J: Job>(
     }
 }
 
-// Runs a job over the boxes that a shape accepts; the order is matched here.
+// Runs a job over the boxes that a shape accepts. Matches the order.
 #[inline(always)]
 fn with_shape<S: Shape + Drop, J: Job>(
     tree: &Tree,
@@ -161,7 +162,7 @@ fn with_shape<S: Shape + Drop, J: Job>(
     }
 }
 
-// Runs a job by a geometry that scores nodes. Without a limit no node needs a score, and to sort all answers at once takes
+// Runs a job over a geometry that scores nodes. Without a limit no node needs a score: to sort all answers at once takes
 // less time than a queue.
 #[inline(always)]
 fn with_scored_nodes<G: Geometry + Drop, J: Job>(

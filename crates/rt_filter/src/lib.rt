@@ -1,11 +1,11 @@
-//! The filter: from a table's bytes and query bytes to the bytes of the answers.
+//! The filter: from the bytes of a table and of queries to the bytes of the answers.
 //!
-//! [`run`] is the call that the program makes, by [`run_std`]; its contract is what the crate is for: where reader, source
-//! and sink report their bytes and nothing fails, what is written, the fault and the status are `run_of` of the settings and
-//! the bytes (`specs/Runs.antt`), however reads and writes are cut. `specs/Endings.antt` says what holds after a failure.
-//! [`serve`] is what it does once the table is loaded: each query line is answered as it comes, by the search of
-//! `rt_search`. Bytes come from a [`Source`] and go to a [`Sink`], of `rt_device`; settings come from the command line
-//! by [`settings_of`], of `rt_command`.
+//! The program calls [`run`], by [`run_std`]. The contract of [`run`] is the purpose of this crate: if reader, source and
+//! sink report their bytes and nothing fails, then what is written, the fault and the status are `run_of` of the settings
+//! and the bytes (`specs/Runs.antt`), however reads and writes are cut. `specs/Endings.antt` says what holds after a
+//! failure. [`serve`] is the part after the load: it answers each query line as it comes, by the search of `rt_search`.
+//! Bytes come from a [`Source`] and go to a [`Sink`], of `rt_device`; settings come from the command line by
+//! [`settings_of`], of `rt_command`.
 #![tactic(auto)]
 
 mod batch;

@@ -1,6 +1,6 @@
-//! How many boxes a query asks for, and what it costs.
+//! Counts, and the costs of queries.
 //!
-//! Of a cost the region and the order are matched for each box.
+//! For a cost, region and order are matched for each box.
 
 ghost use Rattle.std.specs.Prelude.{◌≡◌, ◌≤◌, ⊤, length};
 ghost use Rattle.rt_geo.specs.Orders.{by_id};
@@ -12,7 +12,7 @@ use rt_geo::{ById, Counted, Geometry, Guided, Layers, OnLayers, Order, Region};
 use rt_search::{Frontier, cost, count};
 use rt_tree::Tree;
 
-/// How many boxes of a region are on some layers, and the frontier, which counts the nodes that were opened.
+/// The number of boxes of a region on some layers, and the frontier, which adds the opened nodes to its total.
 pub fn count_boxes(
     tree: &Tree,
     frontier: Frontier,
@@ -58,7 +58,7 @@ impl Job for CountBoxes {
     }
 }
 
-/// How many nodes a find opens, and the frontier, which counts them.
+/// The number of nodes that a find opens, and the frontier, which adds them to its total.
 #[inline(never)]
 pub fn cost_of_find(
     tree: &Tree,
@@ -82,7 +82,7 @@ pub fn cost_of_find(
     cost(tree, frontier, Counted::new(&geometry), limit)
 }
 
-/// How many nodes a count opens, and the frontier, which counts them.
+/// The number of nodes that a count opens, and the frontier, which adds them to its total.
 #[inline(never)]
 pub fn cost_of_count(
     tree: &Tree,

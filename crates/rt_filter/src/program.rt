@@ -1,4 +1,4 @@
-//! What the program does with its command line: it opens the files that are named, and runs over them.
+//! The program behind its command line: opens the files and runs.
 
 ghost use Rattle.std.specs.{Fn.{FnReturnsAt}, Io.Buffered.{writer_contents}};
 ghost use Rattle.std.specs.Prelude.{◌≡◌, MatchOption, MatchResult, Result};
@@ -12,11 +12,11 @@ use rt_device::BufferedSink;
 use std::alloc::Global;
 use std::io::{self, BufWriter, Read, Write};
 
-/// How many bytes of answers are kept before they are written. They are handed on before each pull in any case.
+/// The size of the output buffer in bytes. It is flushed before each read in any case.
 const OUTPUT_CAPACITY: usize = 65_536;
 
-/// Opens the table and then the queries, unless these come from the input, and runs over them, with a buffered writer.
-/// Returns how the program ends, and the writer where a run was made.
+/// Opens the table and then the queries, unless these come from standard input, and runs with a buffered writer. Returns
+/// how the program ends, and the writer if a run was made.
 pub fn open_and_run<F, T, Q, W>(
     alloc: Global,
     invocation: &Invocation,
@@ -56,7 +56,7 @@ where
     }
 }
 
-// Runs with a buffered writer, so that a line is not a system call.
+// Runs with a buffered writer, so that a line isn't a system call.
 fn run_buffered<T: Read + Drop, Q: Read + Drop, W: Write + Drop>(
     alloc: Global,
     settings: &Settings,

@@ -19,26 +19,26 @@ use rt_search::Frontier;
 use rt_text::{Parsed, QueryFault, error_line, parse_into};
 use rt_tree::Tree;
 
-/// How many bytes a query line has at most, a carriage return at its end included and its line feed not.
+/// The most bytes of a query line, a carriage return at its end included and its line feed not.
 const LONGEST_LINE: usize = 4096;
 
-/// How many bytes the buffer for queries holds: those of the longest line and its line feed.
+/// The size of the buffer for queries: the longest line and its line feed.
 pub(crate) const BUFFER_LEN: usize = LONGEST_LINE + 1;
 
-/// How far the lines of the queries that were pulled are answered. The bytes of the line that is begun stand at the
-/// front of the buffer, unless it is too long.
+/// How far the lines of the queries that were pulled are answered. The bytes of the incomplete last line are at the front
+/// of the buffer, unless it is too long.
 #[derive(Drop)]
 pub(crate) struct Progress {
-    // How many lines are complete.
+    // the number of complete lines
     lines: u128,
-    // Whether one of them is faulty.
+    // whether one of them is faulty
     bad: bool,
-    // Whether the line that is begun is too long: its bytes are dropped.
+    // whether the incomplete last line is too long: its bytes are dropped
     is_too_long: bool,
 }
 
 impl Progress {
-    /// Nothing is pulled.
+    /// The state before the first pull.
     pub(crate) fn new() -> Progress
         ensures { result ≡ progress_of [] }
     {
@@ -49,15 +49,15 @@ impl Progress {
         }
     }
 
-    /// Whether a line that is complete is faulty.
+    /// Whether a complete line is faulty.
     pub(crate) fn is_bad(&self) -> bool
         ensures { result ≡ self.now.bad }
     {
         self.bad
     }
 
-    /// Answers the lines that are complete in these bytes, of which the first `kept` were there before the last pull, and
-    /// flushes where there is a reply. Returns the frontier, and where the line that is begun starts.
+    /// Answers the complete lines of these bytes, of which the first `kept` were there before the last pull, and flushes if
+    /// there is a reply. Returns the frontier, and the index at which the incomplete last line starts.
     pub(crate) fn answer_lines<K: Sink>(
         &mut self,
         tree: &Tree,
@@ -71,7 +71,7 @@ impl Progress {
         requires count { K.failed sink.old < 2 ^ 64 - 1 }
         requires fits { length bytes.now ≤ longest_line + 1 }
         requires few { self.old.lines + length bytes.now < 2 ^ 128 }
-        // Whatever was pulled before.
+        // For any bytes that were pulled before.
         ensures pushed { (pulled : List ℕ) → IsAfter self.old (take kept bytes.now) pulled
             → Pushed K.written K.failed sink.old sink.new result
             (output (loaded_tree tree.now) (completed pulled (drop kept bytes.now) false)) }
@@ -80,7 +80,7 @@ impl Progress {
             (λ done. IsLeft self.new (drop done.1 bytes.now) (pulled ++ drop kept bytes.now))
             (λ _. self.new.bad ≡ true
             → any_fault (numbered_lines (pulled ++ drop kept bytes.now) false) ≡ true) }
-        // The nodes that are opened are those of the lines, one after the other.
+        // The opened nodes are those of the lines, one after the other.
         ensures worked { (pulled : List ℕ) → IsAfter self.old (take kept bytes.now) pulled
             → IfOk result (λ done. CountsOn frontier.opened
             (opened_by_lines (loaded_tree tree.now) (completed pulled (drop kept bytes.now) false))
@@ -106,8 +106,8 @@ impl Progress {
         Ok((frontier, start))
     }
 
-    /// Moves the line that is begun, the first `filled` bytes from `start` on, to the front of the buffer. Returns how many
-    /// bytes are kept: none of a line that is too long.
+    /// Moves the incomplete last line, from `start` to `filled`, to the front of the buffer. Returns how many bytes are
+    /// kept: none of a line that is too long.
     pub(crate) fn keep(
         &mut self,
         buffer: &mut [u8; BUFFER_LEN],
@@ -131,8 +131,8 @@ impl Progress {
         left
     }
 
-    // Answers a line, which is the next one, and is parsed into `parsed`. `is_pushed` is set where something is pushed; else
-    // it is left as it was, and the sink too.
+    // Answers the next line, and parses it into `parsed`. Sets `is_pushed` if something is pushed; otherwise it and the
+    // sink stay as they were.
     #[tactic(auto, using(crate::proofs::PushLemmas::nothing_pushed))]
     fn run_line<K: Sink>(
         &mut self,
@@ -179,7 +179,7 @@ impl Progress {
         }
     }
 
-    /// Answers a line that is whole in memory, as [`Progress::answer_lines`] does one whose bytes it has.
+    /// Answers a line that is in memory as a whole, as [`Progress::answer_lines`] does.
     pub(crate) fn answer_whole<K: Sink>(
         &mut self,
         tree: &Tree,
@@ -206,7 +206,7 @@ impl Progress {
         self.run_line(tree, frontier, line, parsed, is_pushed, sink)
     }
 
-    // Pushes the reply to a faulty line, the last one that is counted.
+    // Pushes the reply to a faulty line, the last one counted.
     #[inline(always)]
     fn push_fault<K: Sink>(
         &mut self,
@@ -225,7 +225,7 @@ impl Progress {
     }
 }
 
-/// Where the first line of these bytes ends: the place of its line feed. `None` where no line is complete.
+/// The index of the line feed that ends the first line of these bytes. `None` if no line is complete.
 pub(crate) fn line_end(bytes: &[u8]) -> Option<usize>
     ensures { IsFirstByte (is_byte line_feed) bytes.now result }
 {

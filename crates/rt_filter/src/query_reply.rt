@@ -15,7 +15,7 @@ use rt_search::{Frontier, Search};
 use rt_text::{Query, level_line};
 use rt_tree::Tree;
 
-// Pushes a line for each level, from the top down, and then their number.
+// Pushes a line for each level, from the top down, and then the number of levels.
 fn push_levels<K: Sink>(tree: &Tree, line: u128, sink: &mut K) -> Result<(), WriteFault>
     requires count { K.failed sink.old < 2 ^ 64 - 1 }
     ensures pushed { let sizes = level_sizes (length tree.now.entries) tree.now.fanout in
@@ -47,7 +47,7 @@ pub(crate) fn push_reply<K: Sink>(
         CountsOn frontier.opened (opened_by (loaded_tree tree.now) query.now) left.opened) }
     ensures capacity { IfOk result (λ left. left.capacity ≡ frontier.capacity) }
 {
-    // (called, so that it is known that the tree is the packed one of its own entries)
+    // (the call makes it known to the proof that the tree is the packed one of its own entries)
     let _ = tree.len();
     match query {
         Query::Find {
@@ -102,7 +102,7 @@ fn push_find<K: Sink>(
     with_geometry(tree, frontier, region, layers, order, limit, &mut job)
 }
 
-// The answers to a find, as lines.
+// A job that lists the answers to a find as lines.
 #[derive(Drop)]
 struct PushAnswers<'a, K: Sink> {
     line: u128,
@@ -132,8 +132,8 @@ impl<'a, K: Sink> Job for PushAnswers<'a, K> {
     }
 }
 
-// Pushes a line for each answer of one geometry, and then their number. Out of line, so that a query clears the locals of its
-// own search alone.
+// Pushes a line for each answer of one geometry, and then their number. Out of line, so that a query clears the locals of
+// its own search alone.
 #[inline(never)]
 #[tactic(auto, using(crate::proofs::PushLemmas::as_failed, crate::proofs::FindLemmas::few_answers))]
 fn find<G: Geometry + Drop, K: Sink>(
@@ -152,7 +152,7 @@ fn find<G: Geometry + Drop, K: Sink>(
         IfOk result (λ left. CountsOn frontier.opened opened left.opened) }
     ensures capacity { IfOk result (λ left. left.capacity ≡ frontier.capacity) }
 {
-    // (called, so that it is known that the number of answers fits)
+    // (the call makes it known to the proof that the number of answers fits)
     let _ = tree.len();
     let counted = Counted::new(&geometry);
     let search = Search::start(tree, frontier, counted, limit);

@@ -1,4 +1,4 @@
-//! Lines of replies, pushed and flushed.
+//! Pushes lines of replies, and flushes them.
 
 ghost use Rattle.std.specs.Prelude.{◌≡◌, ◌+◌, ◌-◌, ◌<◌, ◌^◌, [], ◌∷◌, IfOk, MatchOption, OnErr, OnOk, false, length};
 ghost use Rattle.std.specs.Io.KnownBytes.{Keeps};
@@ -11,7 +11,7 @@ use rt_geo::Geometry;
 use rt_search::Search;
 use rt_text::{Line, ok_line, set_answer_line, set_ok_line};
 
-/// Pushes a line until all of it is taken, each time on from where the sink stopped. It isn't flushed.
+/// Pushes a line until the sink has taken all of it. It isn't flushed.
 pub(crate) fn push_line<K: Sink>(text: &Line, sink: &mut K) -> Result<(), WriteFault>
     requires count { K.failed sink.old < 2 ^ 64 - 1 }
     ensures pushed { Pushed K.written K.failed sink.old sink.new result text.now }
@@ -27,7 +27,7 @@ pub(crate) fn push_line<K: Sink>(text: &Line, sink: &mut K) -> Result<(), WriteF
     Ok(())
 }
 
-/// Flushes if something was pushed, so that none of it waits.
+/// Flushes if something was pushed.
 pub(crate) fn flush_pushed<K: Sink>(is_pushed: bool, sink: &mut K) -> Result<(), WriteFault>
     requires count { K.failed sink.old < 2 ^ 64 - 1 }
     ensures bytes { Keeps (K.written sink.old) (K.written sink.new) }
@@ -51,7 +51,7 @@ pub(crate) fn push_ok<K: Sink>(line: u128, n: u64, sink: &mut K) -> Result<(), W
     push_line(&ok_line(line, n), sink)
 }
 
-/// Pushes a line for each answer that a search is still to give, and then their number. Returns the search.
+/// Pushes a line for each answer still to come of a search, and then their number. Returns the search.
 pub(crate) fn push_search<'a, G: Geometry, K: Sink>(
     search: Search<'a, G>,
     line: u128,
@@ -68,7 +68,7 @@ pub(crate) fn push_search<'a, G: Geometry, K: Sink>(
 {
     let mut search = search;
     let mut found: u64 = 0;
-    // (one line for all, since to make one clears its bytes)
+    // (one line for all, since making one clears its bytes)
     let mut text = Line::empty();
     while let Some((id, score)) = search.next() {
         set_answer_line(&mut text, id, score);

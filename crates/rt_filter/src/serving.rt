@@ -1,4 +1,4 @@
-//! Serving query lines, which come in pieces.
+//! Serves query lines that come in pieces: pull, answer, flush.
 
 ghost use Rattle.std.specs.Prelude.{◌≡◌, ◌-◌, ◌<◌, ◌≤◌, ◌^◌, Some, length};
 ghost use Rattle.rt_filter.specs.{Accounts.{Accounts, connection_of}, Endings.{Serves}, Exchanges.{IsServed}};
@@ -11,7 +11,7 @@ use rt_search::Frontier;
 use rt_tree::Tree;
 use std::marker::Brand;
 
-/// Why serving ended before all was read and written.
+/// Why serving ended early.
 #[derive(Clone, Copy, Debug, PartialEq, Eq)]
 pub enum ServeFault {
     /// A pull failed, or the turns were used up.
@@ -23,18 +23,18 @@ pub enum ServeFault {
 /// How serving ended.
 #[derive(Clone, Copy, Debug, PartialEq, Eq)]
 pub struct Served {
-    /// Whether some line that was judged is faulty.
+    /// Whether some answered line is faulty.
     pub bad: bool,
-    /// Why it ended early, where it did.
+    /// Why it ended early, if it did.
     pub fault: Option<ServeFault>,
 }
 
-/// Answers the query lines that a source gives, and pushes the answers to a sink, each line by itself.
+/// Answers the query lines of a source, and pushes the replies to a sink, line by line.
 ///
-/// At most `turns` pulls are made. Before each all lines that are complete are answered, and what was pushed is
-/// flushed, so that a client that waits for an answer before it sends its next line has it (`exchange.rt`). No call can
-/// fail with out of memory: the queries are pulled into a buffer of 4,097 bytes, and a line of more than 4,096 is
-/// reported as too long.
+/// At most `turns` pulls are made. Before each pull all complete lines are answered, and the sink is flushed if anything
+/// was pushed, so that a client that waits for an answer before it sends its next line gets it (`exchange.rt`). It can't
+/// run out of memory: the queries are pulled into a buffer of 4,097 bytes, and a line of more than 4,096 is reported as too
+/// long.
 pub fn serve<S: Source, K: Sink>(
     tree: &Tree,
     frontier: Frontier,
@@ -45,22 +45,22 @@ pub fn serve<S: Source, K: Sink>(
     requires capacity { length tree.now.entries ≤ frontier.capacity }
     requires source_count { S.failed source.old < 2 ^ 64 - 1 }
     requires sink_count { K.failed sink.old < 2 ^ 64 - 1 }
-    // The replies are those over any entries whose packed tree this is. A device that reports its bytes reports them then
-    // too, after a failure as well.
+    // The replies are those over any entries whose packed tree this is. A device that reports its bytes before reports them
+    // after the call too, also after a failure.
     ensures ending { (loaded : Loaded) → tree.now ≡ tree_of loaded → Serves loaded
         (record { coming = S.coming source.old; written = K.written sink.old })
         (record { coming = S.coming source.new; written = K.written sink.new }) result }
-    // What is reported of the devices' failures, the pulls that are made, and what waits for a flush.
+    // What is reported of the devices' failures, the pulls made, and what waits for a flush.
     ensures accounts { let of = connection_of S.coming S.failed S.pulled
         K.written K.failed K.waits in Accounts (of source.old sink.old) (of source.new sink.new)
         turns (result.fault ≡ Some ServeFault.Read) (result.fault ≡ Some ServeFault.Write) }
 {
-    // (called, so that it is known that the tree is the packed one of its own entries)
+    // (the call makes it known to the proof that the tree is the packed one of its own entries)
     let _ = tree.len();
     serve_from::<Brand, S, K>(tree, frontier, source, sink, turns)
 }
 
-// Serves, where `B` says how it begins.
+// Serves; `B` is what is known at the start.
 fn serve_from<B: Start, S: Source, K: Sink>(
     tree: &Tree,
     frontier: Frontier,
@@ -80,7 +80,7 @@ fn serve_from<B: Start, S: Source, K: Sink>(
     serve_turns::<B, S, K>(tree, frontier, source, sink, turns)
 }
 
-// Serves. The source is pulled from by `pull_next` alone, so only once all that was pulled before is answered and flushed.
+// Serves. It pulls from the source by `pull_next` alone, so only after all that was pulled before is answered and flushed.
 fn serve_turns<B: Start, S: Exchange<B, K>, K: Sink>(
     tree: &Tree,
     frontier: Frontier,
@@ -106,7 +106,7 @@ fn serve_turns<B: Start, S: Exchange<B, K>, K: Sink>(
             return ended(&progress, Some(ServeFault::Read));
         };
         if n == 0 {
-            // (as if a line feed came: where no line is begun it ends an empty one, which has no reply)
+            // (as if a line feed came: if no line is incomplete, it ends an empty one, which has no reply)
             buffer[kept] = b'\n';
             let last = &buffer[..=kept];
             let Ok(_) = progress.answer_lines(tree, frontier, last, kept, sink) else {
@@ -125,7 +125,7 @@ fn serve_turns<B: Start, S: Exchange<B, K>, K: Sink>(
     ended(&progress, Some(ServeFault::Read))
 }
 
-// How serving ends.
+// The result of serving.
 fn ended(progress: &Progress, fault: Option<ServeFault>) -> Served
     ensures bad { result.bad ≡ progress.now.bad }
     ensures fault { result.fault ≡ fault }

@@ -11,7 +11,7 @@ use Rattle.rt_geo.specs.declared.layers.Layers.{Layers}
 abbrev pub on_layers_accepts : (Extent → Bool) → (selected : Layers) → Extent → Bool
 on_layers_accepts accepts selected b = accepts b && not (disjoint b.layers selected)
 
--- PARTLY in the place of FULLY
+-- PARTLY instead of FULLY
 abbrev pub at_most_partly : Within → Within
 at_most_partly Fully = Partly
 at_most_partly Partly = Partly

@@ -66,9 +66,9 @@ polygon_of vertices =
     else (if is_strictly_convex vertices then Ok vertices
     else (if is_strictly_convex (reverse vertices) then Ok (reverse vertices) else Err NotConvex))
 
--- the same vertex by vertex, so that no count of vertices has to be believed: a polygon is the list as it stands or its
--- reverse, and strictly convex. Too few or too many vertices are reported as that, and a list of 3 to 16 is refused only
--- where it is strictly convex neither way round
+-- the same vertex by vertex, so that no count of vertices has to be believed: a polygon is the list or its reverse, and
+-- strictly convex. Too few or too many vertices are reported as that, and a list of 3 to 16 is refused only if it is
+-- strictly convex neither way round
 abbrev pub IsPolygonOf : List Point → Result (List Point) PolygonFault → Type 0
 IsPolygonOf points (Ok vertices) =
     (has_polygon_count points ≡ true)
@@ -112,7 +112,7 @@ polygon_holds vertices b = inside b (bounding_box vertices) && list_all (lies_in
 
 -- ---- points in fractions
 
--- where all is taken `d` times as large, the point (x / d, y / d) stands at (x, y), and a point p at `scaled_point d p`
+-- scaled by `d`, the point (x / d, y / d) is at (x, y), and a point p is at `scaled_point d p`
 abbrev pub scaled_point : ℕ → Point → Point
 scaled_point d p = point_at (pos d *ℤ p.x) (pos d *ℤ p.y)
 

@@ -8,13 +8,13 @@ use crate::distance::Point;
 use std::marker::Model;
 use std::simd::prelude::*;
 
-// All bits of the last two lanes.
+// A mask of all bits in the last two lanes, those of the maximums.
 const MAXIMUM_LANES: [i32; 4] = [0, 0, -1, -1];
 
 /// A closed box: a minimum and a maximum on each axis, each minimum at most its maximum.
 ///
-/// The sides are those of SQLite's `rtree_i32` tables. The minimums stand side by side, and so do the maximums, so that
-/// both axes are computed in one step.
+/// The sides are those of SQLite's `rtree_i32` tables. The minimums are adjacent in memory, and so are the maximums, so
+/// that one vector operation handles both axes.
 #[derive(Clone, Copy, Debug, PartialEq, Eq)]
 pub struct Bounds {
     min_x: i32,
@@ -41,7 +41,7 @@ impl Model for Bounds {
 }
 
 impl Bounds {
-    /// The box with these sides. `None` where a minimum is above its maximum, and nowhere else.
+    /// The box with these sides. `None` if and only if a minimum is above its maximum.
     pub fn new(min_x: i32, max_x: i32, min_y: i32, max_y: i32) -> Option<Bounds>
         ensures { SomeIff result (IsRect (rect_of min_x max_x min_y max_y))
             (rect_of min_x max_x min_y max_y) }
@@ -58,7 +58,7 @@ impl Bounds {
         }
     }
 
-    /// The box of one point.
+    /// The box that is a single point.
     pub(crate) fn of_point(point: Point) -> Bounds
         ensures { result ≡ rect_at point }
     {
@@ -70,7 +70,7 @@ impl Bounds {
         }
     }
 
-    /// The least x of its points.
+    /// The lowest x of its points.
     pub fn min_x(&self) -> i32
         ensures value { result ≡ self.now.min_x }
         ensures valid { IsRect self.now }
@@ -79,7 +79,7 @@ impl Bounds {
         self.min_x
     }
 
-    /// The greatest x of its points.
+    /// The highest x of its points.
     pub fn max_x(&self) -> i32
         ensures value { result ≡ self.now.max_x }
         ensures valid { IsRect self.now }
@@ -88,7 +88,7 @@ impl Bounds {
         self.max_x
     }
 
-    /// The least y of its points.
+    /// The lowest y of its points.
     pub fn min_y(&self) -> i32
         ensures value { result ≡ self.now.min_y }
         ensures valid { IsRect self.now }
@@ -97,7 +97,7 @@ impl Bounds {
         self.min_y
     }
 
-    /// The greatest y of its points.
+    /// The highest y of its points.
     pub fn max_y(&self) -> i32
         ensures value { result ≡ self.now.max_y }
         ensures valid { IsRect self.now }
@@ -107,7 +107,7 @@ impl Bounds {
     }
 }
 
-/// Whether two boxes share a point. Boxes that touch do.
+/// Whether two boxes share a point. Boxes that touch share one.
 pub fn overlaps(a: Bounds, b: Bounds) -> bool
     ensures value { result ≡ overlaps a b }
     ensures valid { IsRect a × IsRect b }
@@ -122,8 +122,8 @@ pub fn inside(a: Bounds, b: Bounds) -> bool
     !ends(b).simd_gt(ends(a)).any()
 }
 
-// How far a box reaches to the left, down, to the right and up, where less is farther: its sides, the maximums with
-// all bits flipped. Two boxes are compared in one step by them.
+// The sides as four numbers that are lower the farther the box extends to the left, down, to the right and up: the maximums
+// have all bits flipped. So one vector comparison compares two boxes.
 #[inline(always)]
 fn ends(bounds: Bounds) -> i32x4
     ensures value { result
@@ -134,7 +134,7 @@ fn ends(bounds: Bounds) -> i32x4
     sides(bounds) ^ i32x4::from_array(MAXIMUM_LANES)
 }
 
-// How far a box must reach to the left, down, to the right and up to touch this one.
+// The sides, in the same form, that another box needs at most to touch this one.
 #[inline(always)]
 fn facing_ends(bounds: Bounds) -> i32x4
     ensures value { result
@@ -154,7 +154,7 @@ fn sides(bounds: Bounds) -> i32x4
     i32x4::from_array([bounds.min_x, bounds.min_y, bounds.max_x, bounds.max_y])
 }
 
-/// Its minimums.
+/// The lower left corner.
 #[inline(always)]
 pub(crate) fn mins(bounds: Bounds) -> i32x2
     ensures value { result ≡ bounds.min_x ∷ bounds.min_y ∷ [] }
@@ -164,7 +164,7 @@ pub(crate) fn mins(bounds: Bounds) -> i32x2
     sides(bounds).swizzle([0, 1])
 }
 
-/// Its maximums.
+/// The upper right corner.
 #[inline(always)]
 pub(crate) fn maxs(bounds: Bounds) -> i32x2
     ensures value { result ≡ bounds.max_x ∷ bounds.max_y ∷ [] }
@@ -172,7 +172,7 @@ pub(crate) fn maxs(bounds: Bounds) -> i32x2
     sides(bounds).swizzle([2, 3])
 }
 
-/// The least box in which both boxes lie.
+/// The smallest box that contains both boxes.
 pub fn hull(a: Bounds, b: Bounds) -> Bounds
     ensures value { result ≡ hull a b }
     ensures least { IsLeastAround a b result }

@@ -6,10 +6,10 @@ ghost use Rattle.rt_geo.specs.Laws.{IsHonest, ShowsLayers};
 use crate::geometry::{Geometry, Info, Verdict};
 use std::marker::Model;
 
-/// A borrowed geometry with the number of its checks: the only way in which a search asks a geometry.
+/// A borrowed geometry and the number of its checks. A search checks a geometry through it alone.
 ///
-/// It can't be cloned, no call hands the geometry out, and what it was moved out of can't check any more, so that
-/// the number counts all the checks that were made through it.
+/// It can't be cloned, no call returns the geometry, and a value that was moved out of can't check any more. So the number
+/// counts all checks that were made through it.
 pub struct Counted<'a, G: Geometry> {
     geometry: &'a G,
     asked: u64,
@@ -41,7 +41,7 @@ impl<'a, G: Geometry> Counted<'a, G> {
         Counted { geometry, asked: 0 }
     }
 
-    /// What the geometry answers. The number of checks rises by one, and has to be below [`u64::MAX`].
+    /// The geometry's verdict. Raises the number of checks by one; it has to be below [`u64::MAX`] before.
     pub fn check(&mut self, info: &Info) -> Verdict
         requires honest { IsHonest (G.meaning self.old.geometry).accepts info.now }
         requires layers { ShowsLayers info.now }
@@ -54,7 +54,7 @@ impl<'a, G: Geometry> Counted<'a, G> {
         self.geometry.check(info)
     }
 
-    /// Moves it out. What is left can't check any more, until it is assigned again.
+    /// Moves it out. What is left can't check until it is assigned again.
     pub fn take(&mut self) -> Counted<'a, G>
         ensures geometry { result.geometry ≡ self.old.geometry }
         ensures asked { result.asked ≡ self.old.asked }
@@ -67,7 +67,7 @@ impl<'a, G: Geometry> Counted<'a, G> {
         Counted { geometry, asked }
     }
 
-    /// How many checks were made.
+    /// The number of checks made.
     pub fn asked(&self) -> u64
         ensures { result ≡ self.now.asked }
     {

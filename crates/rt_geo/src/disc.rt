@@ -1,4 +1,4 @@
-//! Discs whose nearest boxes come first.
+//! A circle with the order by distance from its centre, as one geometry.
 
 ghost use Rattle.std.specs.{Option.{SomeIff}, Prelude.{◌≡◌, IfSome, nat_le, nat_lt}};
 ghost use Rattle.rt_geo.specs.{Discs.{MeansBoth}, Distances.{far2, near2}, Orders.{near}, Regions.{disc_of, state_by}};
@@ -11,12 +11,12 @@ use crate::shapes::Circle;
 
 /// Accepts the boxes that share a point with a disc, those nearest to its centre first.
 ///
-/// It answers what [`Circle`] and [`Near`](crate::Near) to its centre answer as a [`Guided`](crate::Guided), with one
-/// distance for both.
+/// Its verdicts are those of a [`Guided`](crate::Guided) of [`Circle`] and [`Near`](crate::Near) to the centre, with one
+/// computation of the distance for both.
 #[derive(Clone, Copy, Debug, PartialEq, Eq)]
 pub struct Disc {
     centre: Point,
-    // the square of how far the disc reaches from there
+    // the square of the radius
     radius2: u128,
 }
 
@@ -32,8 +32,8 @@ impl Disc {
         }
     }
 
-    /// A circle and an order in one: it answers what they do as a [`Guided`](crate::Guided). `None` where the order
-    /// isn't by the distance from the centre of the circle, and nowhere else.
+    /// A circle and an order as one geometry, with the verdicts of their [`Guided`](crate::Guided). `None` if and only if
+    /// the order isn't by distance from the centre of the circle.
     pub fn from_parts(circle: &Circle, order: &Order) -> Option<Disc>
         ensures when { SomeIff result (order.now ≡ near circle.now.centre) (disc_of circle.now) }
         ensures means { IfSome result (λ disc. MeansBoth disc circle.now order.now) }
@@ -44,7 +44,8 @@ impl Disc {
         }
     }
 
-    // How many of the boxes inside the bounds are accepted, whose nearest point is so far from the centre.
+    // How many of the boxes inside the bounds are accepted; `nearest` is the squared distance of the bounds from the
+    // centre.
     fn within(&self, nearest: u128, bounds: Bounds) -> Within
         requires { nearest ≡ near2 self.now.centre bounds }
         ensures { result ≡ state_by (nat_lt self.now.radius2 (near2 self.now.centre bounds))

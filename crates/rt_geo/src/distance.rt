@@ -1,7 +1,7 @@
 //! Distances from a point to a box.
 //!
-//! They are squares of Euclidean distances, exact whole numbers. The greatest,
-//! 2 * 4294967295 * 4294967295 = 36893488130239234050, is above 64 bits.
+//! They are squares of Euclidean distances, exact integers. The greatest,
+//! 2 * 4294967295 * 4294967295 = 36893488130239234050, needs 65 bits.
 
 ghost use Rattle.std.specs.Int.{w32, int_max, int_min};
 ghost use Rattle.std.specs.Prelude.{◌≡◌, ◌<◌, ◌^◌, ◌-ℤ◌, ◌∷◌, [], ℤ, FitsSigned, unsigned_abs};
@@ -18,7 +18,7 @@ pub struct Point {
     pub y: i32,
 }
 
-/// The square of the distance from a point to the nearest point of a box; 0 where the box holds it.
+/// The square of the distance from a point to the nearest point of a box; 0 if the box contains the point.
 pub fn near2(point: Point, bounds: Bounds) -> u128
     ensures value { result ≡ near2 point bounds }
     ensures nearest { IsLeastDistance point bounds result }
@@ -37,7 +37,7 @@ pub fn far2(point: Point, bounds: Bounds) -> u128
     reach_x * reach_x + reach_y * reach_y
 }
 
-/// How far a point lies outside a box, on each axis: as far as from its nearest point in the box.
+/// The distances on the x and the y axis from a point to its nearest point in a box.
 #[inline(always)]
 fn gaps(point: Point, bounds: Bounds) -> [u64; 2]
     ensures value { result
@@ -86,7 +86,7 @@ fn differences(a: i32x2, b: i32x2) -> i64x2
     a.cast::<i64>() - b.cast::<i64>()
 }
 
-/// How far a number is from the farther end of a range.
+/// The distance from a number to the farther end of a range.
 fn reach(value: i32, low: i32, high: i32) -> u32
     ensures { result ≡ reach value low high }
 {

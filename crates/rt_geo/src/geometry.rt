@@ -1,13 +1,11 @@
 //! Query functions: their arguments, their results, and the laws that they keep.
 //!
-//! A search over a tree of boxes asks a [`Geometry`] about each entry and node that it meets. Its
-//! argument, but for layers, and the three states of its result are those of a custom query of SQLite's
-//! R*Tree module.
+//! A search over a tree of boxes calls a [`Geometry`] for each entry and node that it meets. Apart from layers, its
+//! argument and the three states of its result are those of a custom query of SQLite's R*Tree module.
 //!
-//! What a search may conclude from an answer stands in the geometry's laws, which `specs/Laws.antt`
-//! states: an entry is dropped exactly where its box isn't accepted, a node is dropped only where no box
-//! of its extent, inside its bounds and on its layers, is accepted, and a node's score is at most that of
-//! each accepted box of its extent.
+//! The geometry's laws, in `specs/Laws.antt`, say what a search may conclude from a verdict. An entry is dropped if and
+//! only if its box isn't accepted. A node is dropped only if no box of its extent, inside its bounds and on its layers, is
+//! accepted. A node's score is at most that of each accepted box of its extent.
 
 ghost use Rattle.std.specs.Prelude.{◌≡◌, ℕ, Bool, false};
 ghost use Rattle.rt_geo.specs.Laws.{Extent, IsAdmissible, IsFaithful, IsHonest, IsLawful, IsUnscored, Meaning};
@@ -17,21 +15,21 @@ ghost use Rattle.rt_geo.specs.{declared.geometry.Info.{Info}, declared.geometry.
 use crate::bounds::Bounds;
 use crate::layers::Layers;
 
-/// How many of the boxes of an extent are accepted: of those inside its bounds and on its layers.
+/// How many boxes of an extent are accepted: of those inside its bounds and on its layers.
 #[derive(Clone, Copy, Debug, PartialEq, Eq)]
 pub enum Within {
-    /// None: the entry, or all that lies under the node, is dropped.
+    /// None: the entry, or all that is under the node, is dropped.
     Not,
-    /// Perhaps some and not all: an entry is an answer, a node's children are checked.
+    /// Some, but perhaps not all: an entry is an answer; a node's children are checked.
     Partly,
-    /// All: an entry is an answer, and so is all that lies under the node.
+    /// All: an entry is an answer, and so is all that is under the node.
     Fully,
 }
 
 /// The argument of a query function: an entry, or a node of the tree.
 #[derive(Clone, Copy, Debug, PartialEq, Eq)]
 pub struct Info {
-    /// The entry's box, or a box in which all the entries under the node lie.
+    /// The entry's box, or a box that contains all entries under the node.
     pub bounds: Bounds,
     /// The entry's layer alone, or the layers of all the entries under the node. There is at least one.
     pub layers: Layers,
@@ -39,34 +37,34 @@ pub struct Info {
     pub level: u8,
     /// The level of the root.
     pub top: u8,
-    /// What was answered for the parent. It may be [`Within::Fully`] only where every box inside
-    /// `bounds` whose layer is among `layers` is accepted.
+    /// The state of the verdict on the parent. It may be [`Within::Fully`] only if every box inside `bounds` with a layer
+    /// in
+    /// `layers` is accepted.
     pub parent_within: Within,
-    /// The score that was answered for the parent.
+    /// The score of the verdict on the parent.
     pub parent_score: u128,
 }
 
-/// What a query function answers.
+/// The result of a query function.
 #[derive(Clone, Copy, Debug, PartialEq, Eq)]
 pub struct Verdict {
-    /// How many of the boxes of the extent are accepted.
+    /// How many boxes of the extent are accepted.
     pub within: Within,
-    /// The lowest score is taken out of the queue first. It means nothing beside [`Within::Not`].
+    /// The queue returns the lowest score first. Without meaning if the state is [`Within::Not`].
     pub score: u128,
 }
 
 /// Which boxes a query accepts.
 ///
-/// `docs/internals/own-geometry.md` shows how a type of one's own becomes a shape.
+/// `docs/internals/own-geometry.md` shows how to write a shape of your own.
 pub trait Shape {
     /// Whether a box is accepted: the meaning of the shape.
     ghost accepts: { Self → Extent → Bool };
 
-    /// What `within` answers.
+    /// The result of `within`.
     ghost state: { Self → Info → Within };
 
-    /// How many of the boxes of the extent are accepted. Where the parent was [`Within::Fully`], it may
-    /// answer so without a test.
+    /// How many boxes of the extent are accepted. If the parent is [`Within::Fully`], it may return that without a test.
     fn within(&self, info: &Info) -> Within
         requires honest { IsHonest (accepts self.now) info.now }
         requires layers { ShowsLayers info.now }
@@ -81,11 +79,11 @@ pub trait Rank {
     /// The score of a box: the meaning of the rank.
     ghost score: { Self → Extent → ℕ };
 
-    /// What the call `score` answers.
+    /// The result of the call `score`.
     ghost estimate: { Self → Info → ℕ };
 
-    /// Whether nodes have scores, which they have unless a rank says otherwise. Without them each node scores 0: whatever
-    /// the first answer is, each node that may hold answers has to be opened before it.
+    /// Whether nodes have scores; they have unless a rank overrides this. Without scores each node scores 0, so each node
+    /// that may hold answers is opened before the first answer.
     #[inline(always)]
     fn scores_nodes() -> bool
         ensures { result ≡ false → (r : Self) → IsUnscored (estimate r) }
@@ -93,7 +91,7 @@ pub trait Rank {
         true
     }
 
-    /// The score of an entry; for a node a number that is at most the score of each box inside.
+    /// The score of an entry; for a node a number that is at most the score of each box inside it.
     fn score(&self, info: &Info) -> u128
         ensures { result ≡ estimate self.now info.now };
 
@@ -103,14 +101,14 @@ pub trait Rank {
 
 /// A query function: which boxes a query accepts, and the order of its answers.
 ///
-/// [`Guided`](crate::Guided) makes one of a [`Shape`] and a [`Rank`];
-/// `docs/internals/own-geometry.md` shows how to write one whole.
+/// [`Guided`](crate::Guided) makes one of a [`Shape`] and a [`Rank`]; `docs/internals/own-geometry.md` shows how to write
+/// one without them.
 pub trait Geometry {
-    /// Which boxes are accepted, the score of each of them, and what `check` answers.
+    /// Which boxes are accepted, the score of each, and the result of `check`.
     ghost meaning: { Self → Meaning };
 
-    /// Whether nodes have scores, which they have unless a geometry says otherwise. Without them each node scores 0, and a
-    /// search opens all that may hold answers before the first answer.
+    /// Whether nodes have scores; they have unless a geometry overrides this. Without scores each node scores 0, and a
+    /// search opens all nodes that may hold answers before the first answer.
     #[inline(always)]
     fn scores_nodes() -> bool
         ensures { result ≡ false → (g : Self) → IsUnscored (estimate_of (meaning g)) }

@@ -1,12 +1,12 @@
-//! A geometry from two parts.
+//! Combines a shape (which boxes) and a rank (in which order) into a geometry.
 
 ghost use Rattle.rt_geo.specs.Laws.{guided};
 
 use crate::geometry::{Geometry, Info, Rank, Shape, Verdict};
 
-/// The geometry that accepts what its shape accepts, and scores as its rank scores.
+/// The geometry that accepts what its shape accepts, with the scores of its rank.
 ///
-/// It keeps the laws of a geometry wherever its parts keep theirs.
+/// It keeps the laws of a geometry if its parts keep theirs.
 #[derive(Debug, Drop)]
 pub struct Guided<S: Shape, R: Rank> {
     /// Which boxes are accepted.

@@ -1,19 +1,19 @@
-//! Layers: what kind of thing each box stands for, given by a number.
+//! Layers: small numbers that classify boxes, and sets of them as 64 bits.
 
 ghost use Rattle.std.specs.Prelude.{◌≡◌, ◌≤◌, ◌==◌, ◌||◌, ◌↔◌, ℕ, IsTrue, false};
 ghost use Rattle.rt_geo.specs.Layers.{all_layers, disjoint, has, most_layer, only, subset, union};
 
-/// A set of layers, which are the numbers from 0 to 63.
+/// A set of layers. A layer is a number from 0 to 63.
 #[derive(Clone, Copy, Debug, PartialEq, Eq)]
 pub struct Layers {
     bits: u64,
 }
 
 impl Layers {
-    /// The greatest layer.
+    /// The highest layer.
     pub const MOST: u8 = 63;
 
-    /// The layers whose bits are set, layer 0 being the lowest bit.
+    /// The set of the layers whose bits are set; layer 0 is the lowest bit.
     pub fn new(bits: u64) -> Layers
         ensures { result.bits ≡ bits }
     {
@@ -27,7 +27,7 @@ impl Layers {
         Layers { bits: u64::MAX }
     }
 
-    /// One layer, at most 63.
+    /// The set of one layer, which is at most 63.
     pub fn of(layer: u8) -> Layers
         requires { layer ≤ most_layer }
         ensures value { result ≡ only layer }

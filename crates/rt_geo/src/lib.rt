@@ -1,10 +1,8 @@
-//! Boxes, and what a query asks of them: which boxes it accepts, in which order, and what lets a search
-//! skip a whole subtree.
+//! Boxes, and query functions over them: which boxes a query accepts, in which order, and when a search may skip a subtree.
 //!
-//! A query function is a [`Geometry`]. Its meaning is the set of boxes that it accepts and the score of
-//! each; its laws say how far what it answers about a node holds for every box inside. They are all that a
-//! search has to rest on to be right for each geometry: for one made of the shapes and ranks below, and for
-//! one of a user's own.
+//! A query function is a [`Geometry`]. Its meaning is the set of boxes that it accepts and the score of each. Its laws say
+//! what its verdict on a node means for every box inside the node. A search needs these laws alone to be right, for the
+//! shapes and ranks below and for a geometry of your own.
 //!
 //! - Boxes: [`Bounds`], [`Entry`], [`overlaps`], [`inside`], [`hull`]; sets of their [`Layers`].
 //! - Distances: [`Point`], [`near2`], [`far2`].
@@ -15,11 +13,11 @@
 //!   these; [`OnLayers`] is one of them on some layers. A [`PreparedPolygon`] is a polygon that is checked faster.
 //! - Ranks: [`ById`], [`Near`], [`Smallest`], and the enum [`Order`] of these.
 //!
-//! The definitions that the contracts cite stand in `specs/`: `Boxes`, `Layers`, `Entries`, `Distances`, `Laws`,
-//! `Polygons`, `ShortEdges`, `Regions`, `OnLayers`, `Orders`, `Discs`, `Counted`. They are in whole numbers without
-//! bounds; that each `Bounds` is a box of the plane of 32-bit coordinates is a fact of its own (`HasBox`
-//! of an entry, `IsWellFormed` of an info), which the readers of the sides state. What stands below `specs/Lemmas` is
-//! proved, and needn't be believed; `HalfPlanes` is for this crate's code alone.
+//! The definitions that the contracts cite are in `specs/`: `Boxes`, `Layers`, `Entries`, `Distances`, `Laws`, `Polygons`,
+//! `ShortEdges`, `Regions`, `OnLayers`, `Orders`, `Discs`, `Counted`. They are about unbounded integers. That each `Bounds` is a
+//! box of 32-bit coordinates is a separate fact (`HasBox` of an entry, `IsWellFormed` of an info), which the functions that
+//! return the sides state. What is below `specs/Lemmas` is proved, and needn't be believed; `HalfPlanes` is for the code of
+//! this crate alone.
 #![tactic(auto)]
 
 mod bounds;

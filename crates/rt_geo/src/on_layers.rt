@@ -1,11 +1,11 @@
-//! Shapes on some layers.
+//! A shape restricted to some layers.
 
 use crate::geometry::{Info, Shape, Within};
 use crate::layers::Layers;
 
 /// Accepts the boxes that a shape accepts and whose layer is in a set.
 ///
-/// It keeps the laws of a shape wherever the shape does. `specs/OnLayers.antt` has the table of its states.
+/// It keeps the laws of a shape if the shape does. `specs/OnLayers.antt` has the table of its states.
 #[derive(Debug, Drop)]
 pub struct OnLayers<S: Shape> {
     /// Which boxes are accepted, whatever their layer.
@@ -26,7 +26,7 @@ impl<S: Shape> Shape for OnLayers<S> {
             return Within::Not;
         }
         match self.shape.within(info) {
-            // A box inside may be of a layer that isn't selected.
+            // A box inside may be on a layer that isn't selected.
             Within::Fully if !info.layers.is_subset(self.layers) => Within::Partly,
             state => state,
         }

@@ -1,8 +1,8 @@
-//! Convex polygons.
+//! Convex polygons, by the separating axis test.
 //!
-//! A box is accepted where no axis parts it from the polygon (`specs/Polygons.antt`), which is a test of the
-//! four corners of the box for each edge. One corner is enough: the one farthest to the left of the edge shows
-//! whether the box meets the half-plane of the edge, the opposite one whether it lies in it.
+//! A box is accepted if no axis separates it from the polygon (`specs/Polygons.antt`). By the definition that is a test of
+//! the four corners of the box for each edge. One corner is enough: the one farthest to the left of the edge decides
+//! whether the box overlaps the half-plane of the edge, and the opposite one whether it lies in it.
 
 ghost use Rattle.std.specs.{List.{list_all}, Prelude.{◌≡◌, ◌≢◌, ◌<◌, ◌≤◌, ◌^◌, ◌-◌, IsTrue, not, ◌&&◌, IfSome, is_some}};
 ghost use Rattle.std.specs.Prelude.{◌-ℤ◌, ◌*ℤ◌, unsigned_abs, ◌∷◌, length, slice_index_or, count_by};
@@ -27,20 +27,19 @@ pub const FEWEST_VERTICES: usize = 3;
 /// The most vertices of a polygon.
 pub const MOST_VERTICES: usize = 16;
 
-/// Why a list of vertices is no polygon.
+/// Why a list of vertices is rejected.
 #[derive(Clone, Copy, Debug, PartialEq, Eq)]
 pub enum PolygonFault {
     /// There are not 3 to 16 vertices.
     Count,
-    /// The vertices, in turn, aren't those of a strictly convex polygon, neither counterclockwise nor
-    /// clockwise.
+    /// The vertices, in their order, aren't those of a strictly convex polygon, neither counterclockwise nor clockwise.
     NotConvex,
 }
 
-/// Accepts the boxes that a strictly convex polygon of 3 to 16 vertices meets, its edges included.
+/// Accepts the boxes that overlap a strictly convex polygon of 3 to 16 vertices, its edges included.
 ///
-/// The boxes are those that no axis parts from it. A box that is dropped shares no point with the polygon, not
-/// even one in fractions, and each other box shares one with it: these are clauses of `within`.
+/// These are the boxes that no axis separates from it. A box that is dropped shares no point with the polygon, not even one
+/// with fractional coordinates, and each other box shares one: these are clauses of `within`.
 #[derive(Debug, Drop)]
 pub struct Polygon {
     vertices: ArrayVec<Point, MOST_VERTICES>,
@@ -63,7 +62,7 @@ impl Model for Polygon {
     } };
 }
 
-/// Polygons are equal where their vertices are, in turn from the first.
+/// Polygons are equal if their lists of vertices are, each from its first vertex on.
 impl PartialEq for Polygon {
     ghost use Rattle.std.specs.{Cmp.Lexicographic.{pointwise}, Cmp.Rules.{comparing}};
     ghost use Rattle.std.specs.Ordering.{eq_of_both, int_eq, on};
@@ -86,10 +85,10 @@ impl Eq for Polygon {
 }
 
 impl Polygon {
-    /// The polygon with these vertices in turn, counterclockwise or clockwise.
+    /// The polygon with these vertices, counterclockwise or clockwise.
     ///
-    /// [`PolygonFault::Count`] where there are not 3 to 16 of them, [`PolygonFault::NotConvex`] where there
-    /// are and they aren't strictly convex either way round, as where three are in line.
+    /// [`PolygonFault::Count`] if there are not 3 to 16 of them, [`PolygonFault::NotConvex`] if there are and they aren't
+    /// strictly convex either way round, for example if three are in line.
     #[inline(always)]
     pub fn new(points: &[Point]) -> Result<Polygon, PolygonFault>
         ensures value { result ≡ polygon_of points.now }
@@ -101,7 +100,7 @@ impl Polygon {
         if is_strictly_convex(points) {
             return Ok(of_convex(points));
         }
-        // (in part of an array, so that the compiler knows that it is short)
+        // (a slice of an array, so that the compiler knows its greatest length)
         let mut buffer = [points[0]; MOST_VERTICES];
         let reversed = &mut buffer[..points.len()];
         reversed.copy_from_slice(points);
@@ -112,8 +111,8 @@ impl Polygon {
         Err(PolygonFault::NotConvex)
     }
 
-    /// The same polygon, prepared for checks of many boxes, where each edge leads less than 2^31 far on each
-    /// axis. `None` where one leads farther.
+    /// The same polygon, prepared for checks of many boxes, if each edge spans less than 2^31 on each axis; otherwise
+    /// `None`.
     #[inline(always)]
     pub fn prepare(&self) -> Option<PreparedPolygon>
         ensures when { is_some result ≡ has_short_edges self.now }
@@ -122,7 +121,7 @@ impl Polygon {
         prepare(self)
     }
 
-    /// The vertices in turn, counterclockwise.
+    /// The vertices, counterclockwise.
     pub(crate) fn vertices(&self) -> &[Point]
         ensures value { result.now ≡ self.now }
         ensures count { IsTrue (has_polygon_count result.now) }
@@ -131,7 +130,7 @@ impl Polygon {
         &self.vertices
     }
 
-    /// The least box around the vertices.
+    /// The bounding box of the vertices.
     pub(crate) fn bounds(&self) -> Bounds
         ensures { result ≡ bounding_box self.now }
     {
@@ -144,7 +143,7 @@ impl Shape for Polygon {
 
     ghost state = { λ s. region_state (region.Polygon s) };
 
-    // Kept out of line: where the region is matched for each box, in line it made all others slower.
+    // Out of line: inlined into the match over regions, which runs for each box, it made all other regions slower.
     #[inline(never)]
     fn within(&self, info: &Info) -> Within
         ensures state { result ≡ region_state (region.Polygon self.now) info.now }
@@ -169,7 +168,7 @@ pub(crate) struct Edge {
     pub(crate) to: Point,
 }
 
-/// What the edges tell of a box that overlaps the bounding box, and perhaps lies inside it.
+/// The state of a box that overlaps the bounding box, by the edges, given whether it lies inside the bounding box.
 fn state_by_edges(vertices: &[Point], bounds: Bounds, lies_inside: bool) -> Within
     requires { 1 ≤ length vertices.now }
     ensures { result ≡ state_by (not (list_all (meets_half_plane bounds) (edges vertices.now)))
@@ -188,7 +187,7 @@ fn state_by_edges(vertices: &[Point], bounds: Bounds, lies_inside: bool) -> With
     if holds { Within::Fully } else { Within::Partly }
 }
 
-/// The vertex from which the edge to the first one comes.
+/// The last vertex, at which the edge to the first one begins.
 pub(crate) fn last_vertex(vertices: &[Point]) -> Point
     requires { 1 ≤ length vertices.now }
     ensures { result ≡ slice_index_or vertices.now (length vertices.now - 1) result }
@@ -196,7 +195,7 @@ pub(crate) fn last_vertex(vertices: &[Point]) -> Point
     vertices[vertices.len() - 1]
 }
 
-/// Whether the box meets the half-plane to the left of the edge.
+/// Whether the box overlaps the half-plane to the left of the edge.
 fn meets_half_plane(edge: Edge, bounds: Bounds) -> bool
     ensures { result ≡ meets_half_plane bounds edge }
 {
@@ -226,7 +225,7 @@ fn rightmost_corner(edge: Edge, bounds: Bounds) -> Point
     corner(bounds, edge.to.y >= edge.from.y, edge.to.x >= edge.from.x)
 }
 
-/// The corner of the box at the right or the left, and low or high.
+/// A corner of the box: right or left, low or high.
 fn corner(bounds: Bounds, right: bool, low: bool) -> Point
     ensures value { result ≡ corner right low bounds }
     ensures valid { IsRect bounds }
@@ -240,7 +239,7 @@ fn corner(bounds: Bounds, right: bool, low: bool) -> Point
     Point { x, y }
 }
 
-/// How far a point lies to the left of the edge, times the edge's length: a number of up to 66 bits.
+/// How far a point lies to the left of the edge, times the length of the edge: a number of up to 66 bits.
 fn cross(edge: Edge, p: Point) -> i128
     ensures { result ≡ cross edge p }
 {
@@ -269,7 +268,7 @@ fn product(left: i64, right: i64) -> i128
     left as i128 * right as i128
 }
 
-/// Whether all the vertices but its two ends lie strictly to the left of each edge.
+/// Whether for each edge all other vertices lie strictly to its left.
 fn is_strictly_convex(vertices: &[Point]) -> bool
     requires { 1 ≤ length vertices.now }
     ensures { result ≡ is_strictly_convex vertices.now }
@@ -285,7 +284,7 @@ fn is_strictly_convex(vertices: &[Point]) -> bool
     true
 }
 
-/// How many of the points lie strictly to the left of the edge.
+/// The number of points strictly to the left of the edge.
 fn left_of(edge: Edge, points: &[Point]) -> usize
     ensures { result ≡ count_by (is_left edge) points.now }
 {
@@ -323,7 +322,7 @@ pub(crate) fn list_of(points: &[Point]) -> ArrayVec<Point, MOST_VERTICES>
     list
 }
 
-/// The least box around the points.
+/// The bounding box of the points.
 fn bounding_box(points: &[Point]) -> Bounds
     requires { 1 ≤ length points.now }
     ensures { result ≡ bounding_box points.now }
@@ -331,7 +330,7 @@ fn bounding_box(points: &[Point]) -> Bounds
     hull_around(points[0], &points[1..])
 }
 
-/// The least box around the first point and the others.
+/// The bounding box of the first point and the others.
 fn hull_around(first: Point, others: &[Point]) -> Bounds
     ensures { result ≡ bounding_box (first ∷ others.now) }
 {

@@ -1,7 +1,7 @@
 //! Convex polygons with short edges, prepared for checks of many boxes.
 //!
-//! What is the same for all boxes is computed once: where each edge leads, how far its line lies from the origin,
-//! and which corner of a box lies farthest to its left. The products of short edges with coordinates have 63 bits.
+//! What is the same for all boxes is computed once: the vector of each edge, the distance of its line from the origin, and
+//! which corner of a box lies farthest to its left. Products of short edges and coordinates fit in 63 bits.
 
 ghost use Rattle.std.specs.{List.{list_all}, Prelude.{◌≡◌, ◌≢◌, ◌<◌, ◌≤◌, ◌^◌, ◌*ℤ◌, ◌-ℤ◌, IsTrue, not, ◌&&◌, length}};
 ghost use Rattle.std.specs.Prelude.{unsigned_abs, is_some, IfSome, count_by};
@@ -19,22 +19,22 @@ use crate::polygon::{Edge, MOST_VERTICES, Polygon, difference, last_vertex, list
 use arrayvec::ArrayVec;
 use std::marker::Model;
 
-/// How many steps of the coordinates an edge leads at least, on some axis, if it isn't short.
+/// An edge is short if it spans less than this on each axis.
 const LONG_EDGE_STEPS: u32 = 1 << 31;
 
-/// The half-plane to the left of a short edge: the points (x, y) where `along_x * y - along_y * x` is at least the
+/// The half-plane to the left of a short edge: the points (x, y) for which `along_x * y - along_y * x` is at least the
 /// offset.
 #[derive(Clone, Copy, Debug, Default)]
 pub(crate) struct HalfPlane {
     along_x: i32,
     along_y: i32,
     offset: i64,
-    /// Which of the four sides of a box make the corner that lies farthest to the left.
+    /// The indexes of the two sides of a box whose corner lies farthest to the left.
     side_x: u32,
     side_y: u32,
 }
 
-/// A [`Polygon`] each edge of which leads less than 2^31 far on each axis. It is checked faster.
+/// A [`Polygon`] with short edges: each spans less than 2^31 on each axis. It is checked faster.
 #[derive(Debug, Drop)]
 pub struct PreparedPolygon {
     vertices: ArrayVec<Point, MOST_VERTICES>,
@@ -80,7 +80,7 @@ impl Shape for PreparedPolygon {
     ghost faithful = { λ s. region-faithful (region.Polygon s) };
 }
 
-/// What the half-planes tell of a box that perhaps overlaps the bounding box, and perhaps lies inside it.
+/// The state of a box, by the half-planes, given whether it overlaps the bounding box and whether it lies inside it.
 #[inline(always)]
 fn state_by_half_planes(
     half_planes: &[HalfPlane],
@@ -106,8 +106,8 @@ fn state_by_half_planes(
     }
 }
 
-/// Whether the corner that each half-plane picks of these sides lies in it. All are checked, so that it is
-/// branchless: which one parts them would be mispredicted.
+/// Whether for each half-plane the corner that it selects lies in it. All are checked, without a branch: a processor would
+/// mispredict which one separates them.
 #[inline(always)]
 fn all_reach(half_planes: &[HalfPlane], sides: &[i64; 4]) -> bool
     requires small { IsTrue (list_all is_small half_planes.now) }
@@ -121,7 +121,7 @@ fn all_reach(half_planes: &[HalfPlane], sides: &[i64; 4]) -> bool
     all
 }
 
-/// Whether the corner that the half-plane picks of these sides lies in it.
+/// Whether the corner that the half-plane selects from these sides lies in it.
 fn reaches(half_plane: &HalfPlane, sides: &[i64; 4]) -> bool
     requires small { IsTrue (is_small half_plane.now) }
     requires sides { IsTrue (list_all is_coordinate sides.now) }
@@ -146,7 +146,7 @@ fn sides(bounds: Bounds) -> [i64; 4]
     ]
 }
 
-/// The same from its other end on each axis, so that the opposite corner is picked.
+/// The sides with minimum and maximum exchanged on each axis, so that the opposite corner is selected.
 fn turned_sides(bounds: Bounds) -> [i64; 4]
     ensures value { result ≡ turned_sides_of bounds }
     ensures coordinates { IsTrue (list_all is_coordinate result) }
@@ -159,7 +159,7 @@ fn turned_sides(bounds: Bounds) -> [i64; 4]
     ]
 }
 
-/// The polygon with the half-planes of its edges. `None` where an edge isn't short.
+/// The polygon with the half-planes of its edges. `None` if an edge isn't short.
 #[inline(always)]
 pub(crate) fn prepare(polygon: &Polygon) -> Option<PreparedPolygon>
     ensures when { is_some result ≡ has_short_edges polygon.now }
@@ -176,7 +176,7 @@ pub(crate) fn prepare(polygon: &Polygon) -> Option<PreparedPolygon>
     }
 }
 
-/// The half-planes of the edges from the first point on through the others in turn. `None` where one isn't short.
+/// The half-planes of the edges from the first point through the others in their order. `None` if one isn't short.
 #[inline(always)]
 fn half_planes(first: Point, others: &[Point]) -> Option<ArrayVec<HalfPlane, MOST_VERTICES>>
     requires { length others.now ≤ MOST_VERTICES }
@@ -195,8 +195,8 @@ fn half_planes(first: Point, others: &[Point]) -> Option<ArrayVec<HalfPlane, MOS
     Some(half_planes)
 }
 
-/// How many of the points lie strictly to the left of a short edge. Branchless in where one lies, which
-/// would be mispredicted.
+/// The number of points strictly to the left of a short edge. Branchless: a processor would mispredict on which side a
+/// point lies.
 #[inline(always)]
 pub(crate) fn left_of_short(edge: Edge, points: &[Point]) -> usize
     requires { IsTrue (is_short edge) }
@@ -221,7 +221,7 @@ fn is_strictly_left(half_plane: &HalfPlane, point: Point) -> bool
     to_the_left(half_plane.along_x, half_plane.along_y, x, y) > half_plane.offset
 }
 
-/// Whether the edge leads less than 2^31 far on each axis.
+/// Whether the edge spans less than 2^31 on each axis.
 pub(crate) fn is_short(edge: Edge) -> bool
     ensures { result ≡ is_short edge }
 {
@@ -262,7 +262,7 @@ fn to_i64(number: i32) -> i64
     number as i64
 }
 
-/// How far (x, y) lies to the left of the line from the origin along an edge, times the edge's length.
+/// How far (x, y) lies to the left of the line from the origin along an edge, times the length of the edge.
 fn to_the_left(along_x: i32, along_y: i32, x: i64, y: i64) -> i64
     requires along_x { unsigned_abs along_x < 2 ^ 31 }
     requires along_y { unsigned_abs along_y < 2 ^ 31 }

@@ -1,6 +1,6 @@
-//! The ranks that a query knows: the order of its answers.
+//! The orders of answers that a query knows.
 //!
-//! `specs/Orders.antt` has the table of their scores. No score looks at the parent's.
+//! `specs/Orders.antt` has the table of their scores. No score depends on the parent's.
 
 use crate::bounds::area;
 use crate::distance::{Point, near2};
@@ -14,7 +14,7 @@ pub struct ById;
 #[derive(Clone, Copy, Debug, PartialEq, Eq)]
 pub struct Near(pub Point);
 
-/// The box with the least area first: the score is the area.
+/// The box with the smallest area first: the score is the area.
 #[derive(Clone, Copy, Debug, PartialEq, Eq)]
 pub struct Smallest;
 

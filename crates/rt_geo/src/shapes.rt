@@ -1,6 +1,6 @@
 //! The shapes that a query knows: which boxes it accepts.
 //!
-//! `specs/Regions.antt` has the tables of what they accept and of their states. No state looks at the parent's.
+//! `specs/Regions.antt` has the tables of what they accept and of their states. No state depends on the parent's.
 
 ghost use Rattle.std.specs.Prelude.{◌≡◌};
 ghost use Rattle.rt_geo.specs.{Lemmas.Regions.{region-faithful}, Regions.{region_accepts, region_state}};
@@ -14,28 +14,28 @@ use crate::geometry::{Info, Shape, Within};
 #[derive(Clone, Copy, Debug, PartialEq, Eq)]
 pub struct All;
 
-/// Accepts the boxes that overlap a window. Boxes that touch it do.
+/// Accepts the boxes that overlap a window. Touching counts.
 #[derive(Clone, Copy, Debug, PartialEq, Eq)]
 pub struct Window(pub Bounds);
 
-/// Accepts the boxes that lie in a window. Sides may be equal.
+/// Accepts the boxes that lie inside a window. Sides may be equal.
 #[derive(Clone, Copy, Debug, PartialEq, Eq)]
 pub struct Inside(pub Bounds);
 
-/// Accepts the boxes in which a window lies. Sides may be equal.
+/// Accepts the boxes that contain a window. Sides may be equal.
 #[derive(Clone, Copy, Debug, PartialEq, Eq)]
 pub struct Covers(pub Bounds);
 
-/// Accepts the boxes that share a point with a disc, its edge included.
+/// Accepts the boxes that share a point with a disc, its boundary included.
 #[derive(Clone, Copy, Debug, PartialEq, Eq)]
 pub struct Circle {
     /// The centre of the disc.
     pub centre: Point,
-    /// How far the disc reaches from there.
+    /// The radius of the disc.
     pub radius: u32,
 }
 
-/// A borrowed shape returns what the shape does.
+/// A borrowed shape returns what the shape returns.
 impl<S: Shape> Shape for &S {
     ghost accepts = { λ s. S.accepts s.now };
 
@@ -84,7 +84,7 @@ impl Shape for Inside {
     ghost state = { λ s. region_state (region.Inside s) };
 
     fn within(&self, info: &Info) -> Within {
-        // A node that only overlaps the window may hold boxes that lie in it.
+        // A node that only overlaps the window may hold boxes that lie inside it.
         let is_kept = if info.level > 0 {
             overlaps(info.bounds, self.0)
         } else {
@@ -108,7 +108,7 @@ impl Shape for Covers {
     ghost state = { λ s. region_state (region.Covers s) };
 
     fn within(&self, info: &Info) -> Within {
-        // A node that covers the window may hold boxes that don't.
+        // A node that contains the window may hold boxes that don't.
         if inside(self.0, info.bounds) {
             Within::Partly
         } else {

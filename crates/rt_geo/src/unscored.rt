@@ -1,12 +1,12 @@
-//! A geometry without the scores of its nodes.
+//! Adapter that scores every node 0.
 
 ghost use Rattle.rt_geo.specs.Laws.{unscored_meaning};
 
 use crate::geometry::{Geometry, Info, Verdict};
 
-/// A geometry that accepts the same boxes and scores them the same, and scores each node 0.
+/// A geometry that accepts the same boxes with the same scores, and scores each node 0.
 ///
-/// A search for all answers opens the same nodes by it, and finds them all before it sorts them, in place of a queue: that
+/// With it a search for all answers opens the same nodes, but has no queue: it finds all answers and then sorts them, which
 /// takes less time.
 #[derive(Debug, Drop)]
 pub struct Unscored<G: Geometry>(pub G);

@@ -1,4 +1,4 @@
-//! Sessions that C holds.
+//! Opaque session handles for C.
 
 ghost use Rattle.std.specs.Prelude.{◌≡◌, Option, Some, None, IsSome};
 ghost use Rattle.rt_embed.specs.Sessions.{Contents};
@@ -10,7 +10,7 @@ use std::alloc::Global;
 use std::marker::Model;
 use std::mem;
 
-/// A session's type as C sees it: an address, and nothing of what lies there.
+/// A session's type as C sees it: opaque.
 #[repr(C)]
 pub struct Opaque {
     byte: u8,
@@ -30,7 +30,7 @@ impl Model for Handle {
     ghost also_owns = { λ h. holds h.at h.held };
 }
 
-// It may go to another thread: no call writes the tree that sessions share, and all else is the session's own.
+// It may move to another thread: no call writes the tree that sessions share, and the session owns all else.
 unsafe impl Send for Handle {}
 
 impl Handle {
@@ -70,7 +70,7 @@ impl Handle {
         }
     }
 
-    // The box of the session that is held.
+    // The box of the session.
     fn into_box(self, alloc: Global) -> Box<Session>
         requires { IsSome self.held }
         ensures { self.held ≡ Some result.value }

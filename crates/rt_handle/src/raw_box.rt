@@ -1,11 +1,11 @@
-//! A box as a raw pointer.
+//! A box as a raw pointer, with the ownership that makes it a box again.
 
 ghost use Rattle.std.specs.Prelude.{◌≡◌};
 ghost use Rattle.rt_handle.specs.Ownership.{box_at};
 
 use std::marker::Model;
 
-/// A box on the heap, taken apart: its pointer, and the value that lies there.
+/// A box on the heap, taken apart: its pointer, and the value at that address.
 pub(crate) struct RawBox<T> {
     pub(crate) at: *mut T,
     pub(crate) ghost value: { T },

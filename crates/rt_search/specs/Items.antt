@@ -36,7 +36,7 @@ pub record Waiting : Type 0 where
   pub items : List Item
   pub capacity : ℕ
 
--- and how many entries are still needed, where that is known: what comes behind so many needn't be kept
+-- and how many entries are still needed, if that is known: items behind that many entries needn't be kept
 pub record Limited : Type 0 where
   pub items : List Item
   pub needed : Option ℕ

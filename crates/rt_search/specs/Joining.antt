@@ -39,7 +39,7 @@ join_node v number items =
 abbrev pub no_entry : Entry
 no_entry = record { id = pos 0; bounds = no_box; layer = 0 }
 
--- the first so many children of a node above level 1 join
+-- the first children, `so_many` of them, of a node above level 1 join
 abbrev pub join_nodes : Meaning → Packed → Verdict → Node → (so_many : ℕ) → List Item → List Item
 join_nodes meaning t of_node n zero items = items
 join_nodes meaning t of_node n (suc i) items =
@@ -48,7 +48,7 @@ join_nodes meaning t of_node n (suc i) items =
 
 -- ---- the root, which waits
 
--- the last of so many nodes
+-- the last of a number of nodes
 abbrev pub root_node : (nodes : ℕ) → WaitingNode
 root_node nodes = record { number = record { number = nodes - 1 }; is_full = false }
 

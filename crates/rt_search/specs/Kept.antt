@@ -31,7 +31,7 @@ node_item r = item_at (r.0 / 2 ^ 64) (Node (tail_node (r.0 % 2 ^ 64)))
 abbrev pub entry_item : Reverse ℕ → Item
 entry_item r = item_at (r.0 / 2 ^ 64) (Entry (pos (r.0 % 2 ^ 64) -ℤ pos (2 ^ 63)))
 
--- an item by itself
+-- an item of the heap of wide ones
 abbrev pub wide_item : Reverse Item → Item
 wide_item r = r.0
 
@@ -114,7 +114,7 @@ narrow nodes entries = put_all item_cmp (in_order node_item nodes) entries
 abbrev pub queued : (nodes : List (Reverse ℕ)) → (entries wide : List Item) → List Item
 queued nodes entries wide = put_all item_cmp wide (narrow nodes entries)
 
--- each has capacity for so many, and together they hold no more
+-- each part has the capacity, and together they hold at most that many
 pub record IsQueue (nodes : Pooled) (entries wide : Waiting) (capacity : ℕ) : Type 0 where
   pub nodes_capacity : nodes.capacity ≡ capacity
   pub entries_capacity : entries.capacity ≡ capacity
@@ -125,7 +125,7 @@ pub record IsQueue (nodes : Pooled) (entries wide : Waiting) (capacity : ℕ) : 
 
 -- ---- in a heap
 
--- it is a heap, has capacity for so many items and holds no more
+-- it is a heap with this capacity, and holds at most that many items
 pub record IsKept {X A : Type 0} (cmp : X → X → Ordering) (heap : BinaryHeap X A) (capacity : ℕ) : Type 0 where
   pub ordered : IsHeap cmp (heap_items heap)
   pub space : capacity ≤ heap_capacity heap
@@ -142,7 +142,7 @@ hits_in ids keys wide = put_all item_cmp (in_order zero_item ids) (put_all item_
 abbrev pub id_cmp : Reverse ℤ → Reverse ℤ → Ordering
 id_cmp i j = int_cmp j.0 i.0
 
--- ys are the first so many of xs or more, in any order: none of the others comes before one of them
+-- ys are the first `count` of xs or more, in any order: none of the others comes before one of them
 pub record AreFirst {X : Type 0} (item : X → Item) (count : ℕ) (xs ys : List X) : Type 0 where
   pub others : List X
   pub same : IsPermutation xs (ys ++ others)
@@ -153,7 +153,7 @@ pub record AreFirst {X : Type 0} (item : X → Item) (count : ℕ) (xs ys : List
 abbrev pub is_upto : {X : Type 0} → (X → X → Ordering) → (bound : X) → Reverse X → Bool
 is_upto cmp bound x = not (is_gt (cmp x.0 bound))
 
--- all, or those up to a bound, and these are so many or more
+-- all of xs, or those up to a bound, which are `count` or more
 abbrev pub IsCut : {X : Type 0} → (X → X → Ordering) → (count : ℕ) → (xs ys : List (Reverse X)) → Type 0
 IsCut {X} cmp count xs ys = (ys ≡ xs) ⊎ ((bound : X) × ((ys ≡ filter (is_upto cmp bound) xs) × (count ≤ length ys)))
 
@@ -163,7 +163,7 @@ pub record IsPutInOrder {X A : Type 0} (cmp : X → X → Ordering) (old new : V
   pub same : IsPermutation old.items new.items
   pub capacity : vec_capacity new ≡ vec_capacity old
 
--- sorted, or not; each has capacity for so many, and together they hold no more
+-- sorted or not; each part has the capacity, and together they hold at most that many
 pub record HasHits {A B : Type 0} (ids : Vec (Reverse ℤ) A) (keys : Vec (Reverse ℕ) B) (wide : Waiting)
     (is_sorted : Bool) (capacity : ℕ) : Type 0 where
   pub ids_sorted : is_sorted ≡ true → IsSorted id_cmp ids.items

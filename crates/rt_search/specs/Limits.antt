@@ -98,7 +98,7 @@ abbrev pub waiting_keys : (limit : Option ℕ) → (taken : ℕ) → (keys poole
 waiting_keys None taken keys pooled = pooled
 waiting_keys (Some limit) taken keys pooled = drop taken keys
 
--- the keys have capacity for as many as can be needed, the pool for so many, and what is kept fits
+-- the keys have capacity for as many as can be needed, the pool has the whole capacity, and what is kept fits
 pub record HasEntries {A : Type 0} (keys : Vec (Reverse ℕ) A) (taken bound : ℕ) (limit : Option ℕ)
     (pool : Pooled) (capacity : ℕ) : Type 0 where
   pub chosen : IfSome limit (IsChosen keys taken bound)

@@ -49,7 +49,7 @@ pub record IsFar (far : List (Reverse ℕ)) (edge : ℕ) (least : Option ℕ) : 
   pub high : AllByRecursion (λ k. edge < score_in k) far
   pub known : MatchOption least (far ≡ []) (λ s. HasLeastScore s far)
 
--- both have capacity for so many keys, and together they hold no more
+-- both tiers have the capacity, and together they hold at most that many keys
 pub record IsPool {A B : Type 0} (near : BinaryHeap (Reverse ℕ) A) (far : Vec (Reverse ℕ) B) (edge : ℕ)
     (least : Option ℕ) (capacity : ℕ) : Type 0 where
   pub inside : IsNear near edge

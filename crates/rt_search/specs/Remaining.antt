@@ -48,7 +48,7 @@ pub record IsOpenable (t : Packed) (meaning : Meaning) (number : ℕ) (v : Verdi
     pub low : (node_at t number).level ≤ 24
     pub below : IsBelow meaning (extent_of_node (node_at t number)) v
 
--- the same of a node of level 1, by itself
+-- the same for a node of level 1
 pub record IsOpenableLeaf (t : Packed) (meaning : Meaning) (n : Node) (v : Verdict) : Type 0
   where
     pub sound : IsSound t

@@ -21,7 +21,7 @@ answer_if is_accepted id score = if is_accepted then (id, score) ∷ [] else []
 abbrev pub answers_under : Packed → Meaning → (number : ℕ) → List Answer
 answers_under t meaning number = scored (entries_under t (height_at t number) (node_at t number)) meaning
 
--- those among the first so many children of a node of level 1
+-- those among the first `so_many` children of a node of level 1
 abbrev pub answers_among : Packed → Meaning → Node → (so_many : ℕ) → List Answer
 answers_among t meaning n so_many = scored (take so_many (child_entries t n)) meaning
 
@@ -29,7 +29,7 @@ answers_among t meaning n so_many = scored (take so_many (child_entries t n)) me
 abbrev pub verdict_of_child : Meaning → Packed → Verdict → Node → (place : ℕ) → Verdict
 verdict_of_child meaning t of_node n i = meaning.verdict (info_of_node t of_node (node_at t (n.first + i)))
 
--- the answers under the first so many of its children whose verdicts pass the test
+-- the answers under those of its first `so_many` children whose verdicts pass the test
 abbrev pub answers_where : (picks : Verdict → Bool) → Meaning → Packed → Verdict → Node → (so_many : ℕ) → List Answer
 answers_where picks meaning t of_node n zero = []
 answers_where picks meaning t of_node n (suc i) =
@@ -71,7 +71,7 @@ work_under opens cost meaning t v number = reached opens cost meaning t (height_
 abbrev pub work_at_child : (opens : Verdict → Bool) → (cost : Node → ℕ) → Meaning → Packed → Verdict → (number : ℕ) → ℕ
 work_at_child opens cost meaning t v number = if opens v then work_under opens cost meaning t v number else 0
 
--- what it costs under a child of a node that has this verdict, with so many levels of nodes below the child
+-- what it costs under a child of a node with this verdict, with `below` levels of nodes below the child
 abbrev pub work_of_child : (opens : Verdict → Bool) → (cost : Node → ℕ) → Meaning → Packed
     → Verdict → (below : ℕ) → Node → ℕ
 work_of_child opens cost meaning t of_node below child =

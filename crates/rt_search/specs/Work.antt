@@ -35,10 +35,9 @@ info_of_node t parent n = info_under (root_of t).level parent (extent_of_node n)
 
 -- ---- the nodes that are opened
 
--- what is reached from a node that is opened, with this verdict on it and so many levels of nodes below it: its cost,
--- plus the sum of reached over the child nodes whose verdict passes the test. So where each node costs one and the test is
--- that of a search: one, plus the sum of reached over the child nodes whose verdict isn't NOT and whose score is at most
--- the bound
+-- what is reached from an opened node with this verdict and `below` levels of nodes below it: its cost, plus the sum of
+-- reached over the child nodes whose verdict passes the test. If each node costs one and the test is that of a search, that
+-- is: one, plus the sum of reached over the child nodes whose verdict isn't NOT and whose score is at most the bound
 abbrev pub reached : (opens : Verdict → Bool) → (cost : Node → ℕ) → Meaning → Packed → (below : ℕ) → Verdict → Node → ℕ
 reached opens cost meaning t zero of_node n = cost n
 reached opens cost meaning t (suc below) of_node n =
@@ -69,22 +68,22 @@ is_kept other = true
 abbrev pub is_reached : (bound : Option ℕ) → Verdict → Bool
 is_reached bound v = is_kept v.within && option_map_or (nat_le v.score) bound true
 
--- the score of the last of so many answers: no bound where all are needed, or fewer are found
+-- the score of the last answer up to the limit: no bound if all are needed, or if fewer are found
 abbrev pub last_score : List Answer → (limit : Option ℕ) → Option ℕ
 last_score found limit = option_and_then (λ limit. option_map (λ a. a.1) (slice_get found (limit - 1))) limit
 
--- the sum of a cost over the nodes that a search opens for so many answers, or for all where there is no limit: what
--- scores at most as the last of them. For no answer none is opened
+-- the sum of a cost over the nodes that a search up to a limit opens: those that score at most as the last answer, or all
+-- if there is no limit. For no answer none is opened
 abbrev pub search_work : (cost : Node → ℕ) → Meaning → Packed → (limit : Option ℕ) → ℕ
 search_work cost meaning t (Some zero) = 0
 search_work cost meaning t limit =
     reached_from_root (is_reached (last_score (answers t.entries meaning None) limit)) cost meaning t
 
--- how many nodes a search opens for so many answers
+-- the number of nodes that a search up to a limit opens
 abbrev pub opened_by_search : Meaning → Packed → (limit : Option ℕ) → ℕ
 opened_by_search = search_work one_node
 
--- so many nodes were opened and checks made as a search needs for so many answers
+-- as many nodes were opened and as many checks made as a search up to this limit needs
 pub record HasWorked (meaning : Meaning) (t : Packed) (limit : Option ℕ) (opened asked : ℕ) : Type 0 where
   pub in_nodes : opened ≡ opened_by_search meaning t limit
   pub in_checks : asked ≡ search_work its_children meaning t limit
@@ -110,6 +109,6 @@ asked_by_count = reached_from_root is_divided its_children
 
 -- ---- by one search or count after the other
 
--- a count of 64 bits went on by so many; where that is more than they hold, it began again at 0
+-- a 64-bit total rose by `so_many`; beyond its range it wrapped
 abbrev pub CountsOn : (old : ℕ) → (so_many : ℕ) → (new : ℕ) → Type 0
 CountsOn old so_many new = new % 2 ^ 64 ≡ (old + so_many) % 2 ^ 64

@@ -1,4 +1,4 @@
-//! Counting by whole subtrees.
+//! Counts accepted entries; a subtree that is accepted whole adds its size.
 
 ghost use Rattle.std.specs.Prelude.{◌≡◌, ◌+◌, ◌-◌, ◌^◌, [], length};
 ghost use Rattle.std.proofs.Common.{rules};
@@ -10,11 +10,11 @@ use crate::walk::{Collector, Visitor, walk};
 use rt_geo::{Counted, Geometry, Verdict, Within};
 use rt_tree::{Node, Tree};
 
-/// How many entries were accepted so far.
+/// The number of entries accepted so far.
 #[derive(Drop)]
 struct Tally(u64);
 
-// A number counts the answers that it takes.
+// As a collector, a number counts the answers that it takes.
 impl Collector for u64 {
     ghost takes = { λ old _ new. new ≡ old + 1 };
 
@@ -38,7 +38,7 @@ impl Collector for Tally {
         self.0 += u64::from(is_accepted);
     }
 
-    // In a number of its own, which stays in a register: an eighth of a count of many.
+    // (a local number stays in a register: this saves an eighth of the time of a large count)
     #[inline(always)]
     fn visit_entries<G: Geometry>(
         &mut self,
@@ -58,7 +58,7 @@ impl Collector for Tally {
 impl Visitor for Tally {
     ghost opens = { is_divided };
 
-    // A node that is FULLY adds its size.
+    // A node that is FULLY adds its size and isn't opened.
     #[inline(always)]
     fn visit_node(&mut self, verdict: Verdict, size: u32) -> bool {
         match verdict.within {
@@ -74,8 +74,8 @@ impl Visitor for Tally {
     ghost drops = { Prim.search rules };
 }
 
-/// Counts the entries that are accepted. A node that is FULLY adds its size, and isn't opened. What waited in the
-/// frontier is given up, and it counts the nodes that were opened.
+/// Counts the entries that the geometry accepts. A node that is FULLY adds its size and isn't opened. The frontier is
+/// cleared, and adds the opened nodes to its total.
 pub fn count<G: Geometry>(
     tree: &Tree,
     frontier: &mut Frontier,

@@ -1,10 +1,10 @@
-//! What a count returns.
+//! The result of a count.
 
-/// How many entries are accepted, and how many nodes were opened to count them.
+/// The number of accepted entries, and the number of nodes opened to count them.
 #[derive(Clone, Copy, Debug, PartialEq, Eq)]
 pub struct Count {
-    /// How many entries are accepted.
+    /// The number of accepted entries.
     pub accepted: u64,
-    /// How many nodes were opened.
+    /// The number of opened nodes.
     pub opened: u64,
 }

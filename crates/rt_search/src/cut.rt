@@ -1,14 +1,14 @@
-//! A cut in a list: its least elements stay, and few more than are needed.
+//! Partial selection: drops elements above a sampled bound, and keeps at least the k smallest.
 
 ghost use Rattle.std.specs.Prelude.{◌≡◌, ◌<◌, ◌≤◌, filter, length, nat_le, vec_capacity};
 ghost use Rattle.rt_search.specs.Kept.{IsCut, is_upto};
 
 use std::cmp::Reverse;
 
-/// The bound of a cut is one of a sample of so many elements.
+/// The size of the sample that gives the bound.
 const SAMPLE: usize = 256;
 
-/// Gives up elements that come after so many others, where these are at most half of all. The others keep their order.
+/// Drops elements that are not among the `count` smallest, if `count` is at most half of all. The others keep their order.
 pub fn keep_least<T: Ord + Copy + Drop>(items: &mut Vec<Reverse<T>>, count: usize)
     ensures cut { IsCut T.cmp count items.old.items items.new.items }
     ensures capacity { vec_capacity items.new ≡ vec_capacity items.old }
@@ -20,8 +20,8 @@ pub fn keep_least<T: Ord + Copy + Drop>(items: &mut Vec<Reverse<T>>, count: usiz
     }
 }
 
-// An element that comes somewhat behind the first so many, as a sample tells. `None` where there are too few for one, or
-// more than half are needed.
+// An element that, by a sample, comes somewhat after the `count` smallest. `None` if there are too few elements for a
+// sample, or if `count` is more than half of them.
 fn bound_behind<T: Ord + Copy + Drop>(items: &[Reverse<T>], count: usize) -> Option<T> {
     let step = items.len() / SAMPLE;
     if step < 2 || items.len() / 2 < count {
@@ -31,7 +31,7 @@ fn bound_behind<T: Ord + Copy + Drop>(items: &[Reverse<T>], count: usize) -> Opt
     of_sample(items, step, at + at / 4 + 4)
 }
 
-// An element of a sample in order, at a place. Out of line, since memory for a sample is filled at each call.
+// The element at an index of a sorted sample. Out of line, since each call fills the memory of the sample.
 #[inline(never)]
 fn of_sample<T: Ord + Copy + Drop>(items: &[Reverse<T>], step: usize, place: usize) -> Option<T>
     requires enough { SAMPLE ≤ length items.now }
@@ -45,7 +45,7 @@ fn of_sample<T: Ord + Copy + Drop>(items: &[Reverse<T>], step: usize, place: usi
     sample.get(place).copied()
 }
 
-// Whether so many are at most the bound. No more are looked at than tell it.
+// Whether at least `count` elements are at most the bound. Stops as soon as that is certain.
 fn has_upto<T: Ord + Copy + Drop>(items: &[Reverse<T>], count: usize, bound: T) -> bool
     ensures { result ≡ nat_le count (length (filter (is_upto T.cmp bound) items.now)) }
 {

@@ -1,4 +1,4 @@
-//! The memory of searches.
+//! Reusable working memory of a search.
 
 ghost use Rattle.std.specs.Prelude.{◌≡◌, ◌≤◌, [], length, IfOk};
 ghost use Rattle.rt_search.specs.Searching.{Workspace};
@@ -8,21 +8,22 @@ use crate::queue::Queue;
 use std::alloc::{AllocError, Global};
 use std::marker::Model;
 
-/// The memory in which searches work, one after the other; a count only clears its queue. It is made once, and never grows.
+/// The working memory of searches, used by one after the other; a count only clears its queue. It is allocated once and
+/// never grows.
 ///
-/// It is seen as the items that wait in it, in the order in which they are taken out, its capacity, and the number of
-/// nodes that all searches and counts opened that worked in it. It is one pointer, since each query hands it on by value.
+/// Contracts see the items that wait, in the order in which they are taken out, the capacity, and the number of nodes
+/// opened by all searches and counts that used it. It is one pointer, since each query passes it on by value.
 #[derive(Drop)]
 pub struct Frontier {
     pub(crate) buffers: Box<Buffers>,
 }
 
-/// What waits in a search, and what one finds that has no queue.
+/// The queue of a best-first search, and the hits of a search without a queue.
 #[derive(Drop)]
 pub(crate) struct Buffers {
     pub queue: Queue,
     pub hits: Hits,
-    // How many nodes all searches and counts opened that ended, in 64 bits: only contracts speak of it.
+    // the nodes opened by all finished searches and counts, in 64 bits: only contracts refer to it
     pub opened: u64,
 }
 
@@ -39,8 +40,8 @@ impl Model for Frontier {
 }
 
 impl Frontier {
-    /// An empty frontier with capacity for so many items: that of a tree's entries suffices for each search and count over
-    /// the tree. An error means that no memory is left.
+    /// An empty frontier for `capacity` items. The number of entries of a tree is enough for each search and count over it.
+    /// The error is out of memory.
     pub fn new(alloc: Global, capacity: u32) -> Result<Frontier, AllocError>
         ensures items { IfOk result (λ f. f.items ≡ []) }
         ensures capacity { IfOk result (λ f. f.capacity ≡ capacity) }
@@ -57,14 +58,14 @@ impl Frontier {
         Ok(Frontier { buffers })
     }
 
-    /// How many items it can hold.
+    /// The number of items that it can hold.
     pub fn capacity(&self) -> u32
         ensures { result ≡ self.now.capacity }
     {
         self.buffers.hits.capacity()
     }
 
-    /// How many items wait in it.
+    /// The number of items that wait in it.
     pub fn len(&self) -> u32
         ensures value { result ≡ length self.now.items }
         ensures capacity { length self.now.items ≤ self.now.capacity }

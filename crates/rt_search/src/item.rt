@@ -1,4 +1,4 @@
-//! What waits in a queue.
+//! Items of a best-first queue: nodes to open and entries to return.
 
 use rt_tree::NodeNo;
 
@@ -7,26 +7,26 @@ use rt_tree::NodeNo;
 pub struct WaitingNode {
     /// Its number.
     pub number: NodeNo,
-    /// Whether the verdict on it is FULLY, so that all that lies under it is accepted.
+    /// Whether the verdict on it is FULLY: all entries under it are accepted.
     pub is_full: bool,
 }
 
-/// What an item stands for, nodes before entries.
+/// The kind of an item. Nodes come before entries.
 #[derive(Clone, Copy, PartialEq, Eq, PartialOrd, Ord)]
 pub enum Place {
-    /// All answers under a node.
+    /// A node, which stands for all answers under it.
     Node(WaitingNode),
-    /// An entry that is accepted, by its id.
+    /// An accepted entry, by its id.
     Entry(i64),
 }
 
-/// An item that waits. The least is taken out first: that of the lowest score; at equal score nodes before
-/// entries, nodes by number and entries by id.
+/// An item of a queue. The least is taken out first: the lowest score, at equal scores nodes before entries, nodes by
+/// number and entries by id.
 #[derive(Clone, Copy, PartialEq, Eq, PartialOrd, Ord)]
 pub struct Item {
-    /// An entry's score; a node's is at most that of each answer under it.
+    /// The score of an entry; for a node a score that is at most that of each answer under it.
     pub score: u128,
-    /// What it stands for.
+    /// The node or the entry.
     pub place: Place,
 }
 
@@ -39,6 +39,6 @@ pub struct ScoredNode {
     pub node: WaitingNode,
 }
 
-/// What was taken out of a queue: a node, or else the id and the score of an entry, or else nothing, as nothing
-/// waited. The two stand side by side, and not in an enum, so that each stays in registers.
+/// What a queue returns: a node; or else the id and the score of an entry; or else neither, if the queue is empty. Two
+/// options and not an enum, so that each stays in registers.
 pub type Taken = (Option<ScoredNode>, Option<(i64, u128)>);

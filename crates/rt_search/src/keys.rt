@@ -1,7 +1,7 @@
-//! Items whose score is one word, in one number each.
+//! Packed sort keys: an item whose score fits in a word, as one 128-bit number.
 //!
-//! A key holds the score, and below it a tail of one word. So keys of entries stand in the order of these, and so do
-//! those of nodes, and each is moved and compared at once.
+//! A key has the score in its upper word and a tail in its lower word. Keys of entries are in the order of the entries, and
+//! keys of nodes in that of the nodes, so one comparison orders two items and one move copies one.
 
 ghost use Rattle.std.specs.Prelude.{◌≡◌, ◌<◌, ◌/◌, ◌^◌};
 ghost use Rattle.rt_search.specs.{Items.{item_at, item_of}, Kept.{entry_item, lesser, node_item}};
@@ -10,13 +10,13 @@ ghost use Rattle.rt_search.specs.declared.item.Place.TheVariants as place;
 use crate::item::{ScoredNode, WaitingNode};
 use rt_tree::NodeNo;
 
-// How many tails there are, and so how far a key rises from one score to the next.
+// The number of tails: the distance between the keys of two successive scores.
 const TAILS: u128 = 1 << 64;
 
-// How far a tail rises from one node's number to the next.
+// The distance between the tails of two successive node numbers.
 const ONE_NUMBER: u64 = 1 << 32;
 
-/// The score in a key.
+/// The score of a key.
 #[inline(always)]
 pub fn score_of(key: u128) -> u64
     ensures { result ≡ key / 2 ^ 64 }
@@ -24,7 +24,7 @@ pub fn score_of(key: u128) -> u64
     (key / TAILS) as u64
 }
 
-/// An entry's key: its tail is how far the id is above the least.
+/// The key of an entry. Its tail is the distance of the id from the lowest id.
 #[inline(always)]
 pub fn entry_key(score: u64, id: i64) -> u128
     ensures { entry_item (record { 0 = result }) ≡ item_at score (place.Entry id) }
@@ -43,7 +43,7 @@ pub fn entry_of(key: u128) -> (i64, u128)
     (id, key / TAILS)
 }
 
-/// A node's key: its tail is its number, and below it 1 where the verdict on it is FULLY, otherwise 0.
+/// The key of a node. Its tail is the node's number, and below it 1 if the verdict on it is FULLY, otherwise 0.
 #[inline(always)]
 pub fn node_key(score: u64, node: WaitingNode) -> u128
     ensures { node_item (record { 0 = result }) ≡ item_at score (place.Node node) }
@@ -68,7 +68,7 @@ pub fn node_of(key: u128) -> ScoredNode
     }
 }
 
-/// The lesser of a score and the first score, if there is one.
+/// The lower of a score and the first score, if there is a first.
 pub fn lesser(first: Option<u64>, score: u64) -> u64
     ensures { result ≡ lesser first score }
 {

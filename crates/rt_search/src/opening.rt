@@ -1,5 +1,4 @@
-//! Opening a node of a search that has a queue: each of its children is checked, and joins the queue where it may hold
-//! answers.
+//! Opens a node of a best-first search: checks each child, and puts it into the queue if it may hold answers.
 
 ghost use Rattle.std.specs.Prelude.{◌≡◌, ◌+◌, ◌-◌, ◌<◌, ◌≤◌, ◌^◌, List, [], length};
 ghost use Rattle.rt_tree.specs.Packed.{IsSound, node_at};
@@ -13,7 +12,7 @@ use crate::walk::{Collector, info_under, walk_under};
 use rt_geo::{Counted, Geometry, Verdict, Within};
 use rt_tree::{NodeNo, Tree};
 
-/// Puts the root into an empty queue, if the tree has one. It isn't checked.
+/// Puts the root, if the tree has one, into an empty queue. It isn't checked.
 pub(crate) fn put_root(tree: &Tree, queue: &mut Queue)
     requires empty { queue.old.items ≡ [] }
     requires capacity { length tree.now.entries ≤ queue.old.capacity }
@@ -28,8 +27,8 @@ pub(crate) fn put_root(tree: &Tree, queue: &mut Queue)
     queue.put_node(root, number);
 }
 
-/// Opens a node that was taken out. Where nodes have no scores, each node under it that may hold answers has to be opened
-/// before the next answer, so that all are opened at once.
+/// Opens a node that was taken out of the queue. If nodes have no scores, every node under it that may hold answers has to
+/// be opened before the next answer, so all of them are opened now.
 #[inline(always)]
 pub(crate) fn open<G: Geometry>(
     tree: &Tree,
@@ -61,7 +60,7 @@ pub(crate) fn open<G: Geometry>(
     walk_under(tree, queue, counted, opened, taken.node.number, parent);
 }
 
-// Opens one node that was taken out.
+// Opens one node that was taken out of the queue.
 fn open_node<G: Geometry>(
     tree: &Tree,
     queue: &mut Queue,
@@ -89,7 +88,7 @@ fn open_node<G: Geometry>(
         return;
     }
     let first = node.first;
-    // (the level of each child, computed and not read, so that the compiler sees that none is an entry)
+    // (the level of each child is computed and not read, so that the compiler sees that no child is an entry)
     let level = node.level - 1;
     let children = tree.child_nodes(node);
     for (i, child) in children.iter().enumerate() {
@@ -100,7 +99,7 @@ fn open_node<G: Geometry>(
     }
 }
 
-// What is known of a node that waited with a score.
+// The verdict on a node that waited with a score.
 fn verdict_on(score: u128, node: WaitingNode) -> Verdict
     ensures { result ≡ verdict_on score node }
 {

@@ -1,4 +1,4 @@
-//! The children of a node that wait to be opened, one after the other, once all of them were checked.
+//! Bit sets of the children of a node that were checked and wait to be opened.
 
 ghost use Rattle.std.specs.Prelude.{◌≡◌, ◌<◌, ℕ, MatchOption, false};
 ghost use Rattle.rt_search.specs.Pending.{HasKept, HasPut, HasTakenOut, is_among};
@@ -6,14 +6,14 @@ ghost use Rattle.rt_search.specs.Pending.{HasKept, HasPut, HasTakenOut, is_among
 use rt_geo::{Verdict, Within};
 use std::marker::Model;
 
-/// A node has at most so many children.
+/// The most children of a node.
 const MOST: usize = 64;
 
-/// Children that wait, by their places among those of their node, with the verdicts on them. Sets of places are words, since
+/// The children that wait, by their index among those of their node, with the verdicts on them. Sets of indexes are words:
 /// a list would have to be cleared for each node that is opened.
 ///
-/// It is seen as what it has: which places wait, which are FULLY, and the scores. Whether nodes have scores is an argument of
-/// its calls, and no field, so that the compiler leaves the memory for scores out where they have none.
+/// Contracts see which children wait, which of them are FULLY, and the scores. Whether nodes have scores is an argument of
+/// the calls and not a field, so that the compiler leaves out the memory for scores that nodes don't have.
 #[derive(Drop)]
 pub struct Pending {
     places: u64,
@@ -49,7 +49,7 @@ impl Pending {
         }
     }
 
-    /// Keeps the verdict on the child at a place.
+    /// Keeps the verdict on the child at an index.
     #[inline(always)]
     pub fn keep(&mut self, place: usize, verdict: Verdict, has_scores: bool)
         requires place { place < MOST }
@@ -58,14 +58,14 @@ impl Pending {
         ensures { HasKept has_scores place verdict self.old self.new }
     {
         let is_full = verdict.within == Within::Fully;
-        // (without a branch, so that nothing is left of it where no child looks at its parent's state)
+        // (branchless, so that nothing is left of it if no child reads the state of its parent)
         self.full |= u64::from(is_full) << place;
         if has_scores {
             self.scores[place] = verdict.score;
         }
     }
 
-    /// Puts the child at a place in.
+    /// Puts the child at an index in.
     #[inline(always)]
     pub fn put(&mut self, place: usize)
         requires { place < MOST }
@@ -74,7 +74,7 @@ impl Pending {
         self.places |= 1 << place;
     }
 
-    /// Takes the first child out that waits: its place, and the verdict on it.
+    /// Takes the first waiting child out: its index, and the verdict on it.
     #[inline(always)]
     pub fn take(&mut self, has_scores: bool) -> Option<(usize, Verdict)>
         ensures taken { MatchOption result ((i : ℕ) → is_among self.old.places i ≡ false)

@@ -1,4 +1,4 @@
-//! A priority queue of keys in two tiers: a heap of those that are near, and a list of those that are far.
+//! Two-tier priority queue: a heap of the near keys and an unsorted list of the far ones.
 
 ghost use Rattle.std.specs.{BinaryHeap.{heap_capacity, heap_items}, Prelude.{◌≡◌, ◌<◌, ◌≤◌, ◌++◌, [], ◌∷◌, IfNone}};
 ghost use Rattle.std.specs.Prelude.{IfOk, IfSome, MatchOption, length, vec_capacity, IsPermutation};
@@ -10,20 +10,20 @@ use std::cmp::Reverse;
 use std::collections::BinaryHeap;
 use std::marker::Model;
 
-// The edge moves to so many times the least score: for squares of distances, to twice the distance.
+// The edge moves to this multiple of the lowest score; for squared distances that is twice the distance.
 const FARTHER: u64 = 4;
 
-/// Keys of which the least are taken out. Those whose score is at most the edge are near, in a heap, and the others
-/// far, in no order. Most that a search finds are far and never needed, so that they cost no more than to be written
-/// down. Once none is near, the edge moves out, and the keys up to it move into the heap.
+/// Keys, of which the least is taken out first. Keys with a score up to the edge are near and kept in a heap; the others
+/// are far and unsorted. Most keys that a search finds are far and never needed, so they cost one write each. When no near
+/// key is left, the edge moves out, and the keys up to it move into the heap.
 ///
-/// It is seen as its keys, the near before the far, and its capacity, which is that of both.
+/// Contracts see the keys, the near ones first, and the capacity of either tier.
 #[derive(Drop)]
 pub struct Pool {
     near: BinaryHeap<Reverse<u128>>,
     far: Vec<Reverse<u128>>,
     edge: u64,
-    // the least score that is far
+    // the lowest score of a far key
     least: Option<u64>,
     capacity: u32,
 }
@@ -76,7 +76,7 @@ impl Pool {
     {
         let score = score_of(key);
         if score <= self.edge {
-            // (there is capacity, so no memory is taken)
+            // (there is capacity, so nothing is allocated)
             let _pushed = self.near.push(Reverse(key));
             return;
         }
@@ -84,7 +84,7 @@ impl Pool {
         self.far.push_reserved(Reverse(key));
     }
 
-    /// The least score.
+    /// The lowest score.
     #[inline(always)]
     pub fn first_score(&self) -> Option<u64>
         ensures { MatchOption result (keys_in self.now ≡ [])
@@ -109,7 +109,7 @@ impl Pool {
         Some(top.0)
     }
 
-    // Moves the edge out, where no key is near.
+    // Moves the edge out, if no key is near.
     #[inline(always)]
     fn fill(&mut self)
         ensures same { IsPermutation (keys_in self.old) (keys_in self.new) }
@@ -127,8 +127,8 @@ impl Pool {
     }
 }
 
-// Moves the keys of scores up to the edge to those near, and returns the least score of the others. Out of line, as it
-// is rare.
+// Moves the keys with a score up to the edge to the near ones, and returns the lowest score of the others. Out of line, as
+// it is rare.
 #[inline(never)]
 fn move_near(
     near: &mut BinaryHeap<Reverse<u128>>,
@@ -150,7 +150,7 @@ fn move_near(
         let score = score_of(far[at].0);
         if score <= edge {
             let key = far.swap_remove(at);
-            // (there is capacity, so no memory is taken)
+            // (there is capacity, so nothing is allocated)
             let _pushed = near.push(key);
         } else {
             least = Some(lesser(least, score));

@@ -1,4 +1,4 @@
-//! What waits in a best-first search.
+//! Priority queue of a best-first search: nodes to open and entries found.
 
 ghost use Rattle.std.proofs.Common.{rules};
 ghost use Rattle.std.specs.Prelude.{◌≡◌, ◌-◌, ◌<◌, ◌≤◌, ◌^◌, [], false, length, IfOk, IfSome, MatchBool, MatchOption};
@@ -20,11 +20,11 @@ use rt_tree::NodeNo;
 use std::alloc::{AllocError, Global};
 use std::marker::Model;
 
-/// A priority queue of nodes that wait and entries that were found. The few items of either kind whose score is more
-/// than one word stand apart, since they come after all others.
+/// A priority queue of nodes that wait and entries that were found. Items of either kind with a score of more than one word
+/// are rare and kept apart, since they come after all others.
 ///
-/// It is seen as the items that they are, in order, how many entries are still needed, where that is known, and its
-/// capacity, which is that of each of the three.
+/// Contracts see the items in order, the number of entries still needed if it is known, and the capacity of each of the
+/// three parts.
 #[derive(Drop)]
 pub struct Queue {
     nodes: Pool,
@@ -65,7 +65,7 @@ impl Queue {
         (self.nodes.len() + self.entries.len() + self.wide.len()) as u32
     }
 
-    /// Gives up what it has, for a search up to a limit, if there is one.
+    /// Removes all items, for a search with this limit, if any.
     pub fn clear(&mut self, limit: Option<u64>)
         ensures { IsCleared limit self.old self.new }
     {
@@ -94,7 +94,7 @@ impl Queue {
         self.nodes.put(node_key(score as u64, node));
     }
 
-    /// Takes the least item out, if one waits.
+    /// Takes the least item out, if there is one.
     #[inline(always)]
     pub fn take(&mut self) -> Taken
         ensures { IsTakenFrom self.old self.new (taken_item result) }
@@ -131,7 +131,7 @@ impl Collector for Queue {
 impl Visitor for Queue {
     ghost opens = { is_reached None };
 
-    // Each node is opened that may hold answers.
+    // A node is opened if it may hold answers.
     #[inline(always)]
     fn visit_node(&mut self, verdict: Verdict, _size: u32) -> bool {
         !matches!(verdict.within, Within::Not)
@@ -140,7 +140,7 @@ impl Visitor for Queue {
     ghost drops = { Prim.search rules };
 }
 
-// Takes the least of those whose score is one word.
+// Takes out the least item whose score fits in a word.
 #[inline(always)]
 fn take_narrow(nodes: &mut Pool, entries: &mut WaitingEntries) -> Taken
     ensures taken { IsTakenOut (taken_item result) (narrow (keys_in nodes.old) entries.old.items)
@@ -159,7 +159,7 @@ fn take_narrow(nodes: &mut Pool, entries: &mut WaitingEntries) -> Taken
     (None, entries.take())
 }
 
-// Whether a node is next: one waits whose score is at most that of each entry found.
+// Whether a node is next: one waits, and its score is at most that of each entry found.
 #[inline(always)]
 fn is_node_next(nodes: &Pool, entries: &WaitingEntries) -> bool
     ensures { MatchBool result (IsAhead (in_order node_item (keys_in nodes.now)) entries.now.items)
@@ -174,8 +174,8 @@ fn is_node_next(nodes: &Pool, entries: &WaitingEntries) -> bool
     node <= entry
 }
 
-// Takes the least of those whose score is more, where there are no others. Inlined, so that the memory for what
-// `Wide::take` returns is made only where that is called.
+// Takes out the least item with a wide score, if there are no others. Inlined, so that memory for the result of
+// `Wide::take` is set aside only if that is called.
 #[inline(always)]
 fn take_wide(entries: &mut WaitingEntries, wide: &mut Wide) -> Taken
     requires { entries.old.items ≡ [] }

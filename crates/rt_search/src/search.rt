@@ -1,8 +1,8 @@
 //! Searches: the answers to a query, one at a time.
 //!
-//! A search with a queue opens what may hold the next answer before it gives it. Where nodes have no scores, all that may
-//! hold answers has to be opened before the first. So with a limit above [`FEW`], or none, all answers are then found at
-//! once, and sorted, in place of a queue. [`gathers`] decides once, as a search starts, which way it goes.
+//! A search with a queue opens what may hold the next answer, and then returns that answer. If nodes have no scores, all
+//! that may hold answers has to be opened before the first answer. So with a limit above [`FEW`], or none, such a search
+//! has no queue: it finds all answers at once and sorts them. [`gathers`] decides this once, at the start.
 
 ghost use Rattle.std.specs.Prelude.{◌≡◌, ◌≢◌, ◌+◌, ◌≤◌, ℕ, [], ◌∷◌, List, IfNone, IfSome, MatchOption, drop, length};
 ghost use Rattle.std.specs.Prelude.{false, true};
@@ -21,20 +21,20 @@ use rt_geo::{Counted, Geometry};
 use rt_tree::Tree;
 use std::marker::Model;
 
-/// Where nodes have no scores, up to so many answers are kept in a queue as they are found.
+/// The highest limit up to which answers are kept in a queue although nodes have no scores.
 const FEW: u64 = 64;
 
-/// A search that gives the answers to a query one at a time, those of the lowest score first.
+/// A search, which returns the answers to a query one at a time, the lowest score first.
 ///
-/// It is seen as what is searched, the limit, the answers still to come and how many were given, the nodes opened and
-/// the checks made so far, the capacity of its frontier, and how many nodes were opened in that before.
+/// Contracts see the tree, the geometry and the limit; the answers still to come and how many were returned; the nodes
+/// opened and the checks made so far; the capacity of the frontier, and how many nodes it had counted before.
 #[derive(Drop)]
 pub struct Search<'a, G: Geometry> {
     tree: &'a Tree,
     buffers: Box<Buffers>,
     counted: Counted<'a, G>,
     limit: Option<u64>,
-    // whether all answers are found before the first is given
+    // whether all answers are found before the first is returned
     gathers: bool,
     given: u64,
     opened: u64,
@@ -61,8 +61,7 @@ impl<'a, G: Geometry> Model for Search<'a, G> {
 }
 
 impl<'a, G: Geometry> Search<'a, G> {
-    /// A search for so many answers, or for all where there is no limit. What the frontier held is given up. No node is
-    /// opened yet.
+    /// Starts a search for up to `limit` answers, or for all. The frontier is cleared. No node is opened yet.
     pub fn start(
         tree: &'a Tree,
         frontier: Frontier,
@@ -96,8 +95,7 @@ impl<'a, G: Geometry> Search<'a, G> {
         }
     }
 
-    /// The next answer, as its id and score. `None` where none is left or as many were given as are needed, and from
-    /// then on.
+    /// The next answer, as its id and score. `None` at the end or once the limit is reached, and from then on.
     pub fn next(&mut self) -> Option<(i64, u128)>
         ensures answer { MatchOption result (self.old.to_come ≡ [])
             (λ a. self.old.to_come ≡ a ∷ self.new.to_come) }
@@ -105,7 +103,7 @@ impl<'a, G: Geometry> Search<'a, G> {
         ensures given { MatchOption result (self.new.given ≡ self.old.given)
             (λ _. self.new.given ≡ self.old.given + 1) }
 
-        // After an answer the work is that of a search for so many answers, and once `None` is returned that of the
+        // After an answer the work is that of a search for as many answers as were returned; after `None` it is that of the
         // whole search.
         ensures worked { IfSome result (λ _. HasWorked (G.meaning self.old.geometry) self.old.tree
             (Some self.new.given) self.new.opened self.new.asked) }
@@ -134,15 +132,15 @@ impl<'a, G: Geometry> Search<'a, G> {
         Some(answer)
     }
 
-    /// How many nodes were opened so far.
+    /// The number of nodes opened so far.
     pub fn opened(&self) -> u64
         ensures { result ≡ self.now.opened }
     {
         self.opened
     }
 
-    /// The frontier, for the next search, and the geometry with the number of its checks. No more items wait in it than
-    /// the tree has entries. It counts the nodes that were opened.
+    /// Returns the frontier, for the next search, and the geometry with the number of its checks. At most as many items
+    /// wait in the frontier as the tree has entries. It has added the opened nodes to its total.
     pub fn finish(self) -> (Frontier, Counted<'a, G>)
         ensures capacity { result.0.capacity ≡ self.entry.capacity }
         ensures items { length result.0.items ≤ length self.entry.tree.entries }
@@ -156,7 +154,7 @@ impl<'a, G: Geometry> Search<'a, G> {
     }
 }
 
-// Whether all answers are found at once, without a queue.
+// Whether the search finds all answers at once, without a queue.
 #[inline(always)]
 fn gathers<G: Geometry>(limit: Option<u64>) -> bool
     ensures unscored { result ≡ true → (geometry : G) →
@@ -172,7 +170,7 @@ fn gathers<G: Geometry>(limit: Option<u64>) -> bool
     }
 }
 
-// Gives up what the buffers held, and decides which way the search goes. The root waits, where there is a queue.
+// Clears the buffers, decides which way the search goes, and puts the root into the queue if there is one.
 #[inline(always)]
 fn begin<G: Geometry>(tree: &Tree, buffers: &mut Buffers, limit: Option<u64>) -> bool
     requires capacity { length tree.now.entries ≤ buffers.old.queue.capacity }
@@ -191,7 +189,7 @@ fn begin<G: Geometry>(tree: &Tree, buffers: &mut Buffers, limit: Option<u64>) ->
     false
 }
 
-// The next answer, where the limit isn't reached. `None` where none is left.
+// The next answer, if the limit isn't reached. `None` if no answer is left.
 #[inline(always)]
 fn advance<G: Geometry>(
     tree: &Tree,
@@ -219,12 +217,12 @@ fn advance<G: Geometry>(
         gather(tree, &mut buffers.hits, counted, opened, limit);
         return buffers.hits.take();
     }
-    // (of its own, so that a hit stays in registers)
+    // (bound first, so that a hit stays in registers)
     let answer = pull(tree, &mut buffers.queue, counted, opened)?;
     Some(answer)
 }
 
-// Finds all answers, unless they were found.
+// Finds all answers, unless that is done.
 #[inline(always)]
 fn gather<G: Geometry>(
     tree: &Tree,
@@ -247,13 +245,13 @@ fn gather<G: Geometry>(
     if hits.is_sorted() {
         return;
     }
-    // (in locals of its own, so that a search stays in registers)
+    // (locals, so that a search stays in registers)
     let mut own = counted.take();
     *opened = find_all(tree, hits, &mut own, limit);
     *counted = own;
 }
 
-// Finds all answers, and puts those up to the limit in order. Returns how many nodes were opened.
+// Finds all answers, and sorts those up to the limit. Returns the number of opened nodes.
 #[inline(always)]
 fn find_all<G: Geometry>(
     tree: &Tree,
@@ -279,7 +277,8 @@ fn find_all<G: Geometry>(
     opened
 }
 
-// Takes items out of the queue until an entry comes: the next answer. None comes where no item is left.
+// Takes items out of the queue, and opens the nodes among them, until an entry comes: the next answer. `None` if the queue
+// runs empty.
 fn pull<G: Geometry>(
     tree: &Tree,
     queue: &mut Queue,
@@ -312,8 +311,8 @@ fn pull<G: Geometry>(
     }
 }
 
-/// How many nodes a search opens for so many answers, or for all where there is no limit, and the frontier, which counts
-/// them. What the frontier held is given up.
+/// The number of nodes that a search up to a limit opens, or one for all answers, and the frontier, which has added it to
+/// its total. The frontier is cleared first.
 pub fn cost<G: Geometry>(
     tree: &Tree,
     frontier: Frontier,
@@ -328,7 +327,7 @@ pub fn cost<G: Geometry>(
     ensures counted { CountsOn frontier.opened result.0 result.1.opened }
 {
     if limit.is_none() {
-        // (each node that may hold answers is opened, in whatever order)
+        // (every node that may hold answers is opened, so the order doesn't matter)
         let mut buffers = frontier.buffers;
         let mut counted = counted;
         let Buffers {

@@ -1,8 +1,7 @@
-//! Walking over the nodes of a tree: the checks of the children of an opened node, and the collectors of what is found.
+//! Depth-first traversal with pruning, shared by counts and by searches without a queue.
 //!
-//! A count, and a search whose nodes have no scores, walk from the root downwards. What they do at a node and with an
-//! entry is their [`Visitor`]. A best-first search opens one node at a time, in an order of its own, and needs a
-//! [`Collector`] alone.
+//! A traversal goes from the root downwards. Its [`Visitor`] decides which nodes are opened, and takes the accepted
+//! entries. A best-first search opens one node at a time, in an order of its own, and needs a [`Collector`] alone.
 
 ghost use Rattle.std.specs.Prelude.{◌≡◌, ◌+◌, ◌-◌, ◌<◌, ◌≤◌, ◌^◌, ℕ, Bool, List, [], if◌then◌else◌, length};
 ghost use Rattle.std.specs.Prelude.{false, not};
@@ -18,20 +17,20 @@ use crate::pending::Pending;
 use rt_geo::{Bounds, Counted, Geometry, Info, Layers, Verdict, Within};
 use rt_tree::{Node, NodeNo, Tree};
 
-/// What takes the entries under the nodes that are opened.
+/// Takes the accepted entries of the nodes that are opened.
 pub(crate) trait Collector: Sized {
-    /// What it becomes with one more answer.
+    /// The collector after it has taken one more answer.
     ghost takes: { Self → Answer → Self → Type 0 };
 
-    /// How many more it can take.
+    /// The number of answers for which it has space.
     ghost space: { Self → ℕ };
 
-    /// Takes an entry where it is accepted.
+    /// Takes an entry if it is accepted.
     fn visit_entry(&mut self, is_accepted: bool, score: u128, id: i64)
         requires { 0 < space self.old }
         ensures { HasTaken takes self.old (answer_if is_accepted id score) self.new };
 
-    /// Asks about each entry under a node of level 1, and takes those that are accepted.
+    /// Checks each entry of a node of level 1, and takes the accepted ones.
     #[inline(always)]
     fn visit_entries<G: Geometry>(
         &mut self,
@@ -59,28 +58,28 @@ pub(crate) trait Collector: Sized {
         }
     }
 
-    /// Each answer takes at most a place.
+    /// Each answer needs the space of at most one.
     ghost fills: { IsFilling takes space };
 }
 
-/// What says at each node that a walk comes to whether it is opened, and takes the entries.
+/// Decides for each checked node whether it is opened, and takes the accepted entries.
 pub(crate) trait Visitor: Collector {
     /// Whether a node with this verdict is opened.
     ghost opens: { Verdict → Bool };
 
-    /// Whether the node is opened. Where it isn't, all that is accepted under it is taken: nothing where the verdict is
-    /// [`Within::Not`], and so many entries as the node's size says where it is [`Within::Fully`].
+    /// Whether the node is opened. If it isn't, all accepted entries under it are taken now: none if the verdict is
+    /// [`Within::Not`], and as many as the node's size if it is [`Within::Fully`].
     fn visit_node(&mut self, verdict: Verdict, size: u32) -> bool
         requires { size ≤ Self.space self.old }
         ensures opens { result ≡ opens verdict }
         ensures taken { (answers : List Answer) → IsKnown verdict.within size answers
             → HasTaken Self.takes self.old (if result then [] else answers) self.new };
 
-    /// No node is opened that is [`Within::Not`].
+    /// A node that is [`Within::Not`] is never opened.
     ghost drops: { (v : Verdict) → v.within ≡ Not → opens v ≡ false };
 }
 
-/// The argument of the check of a child of a node that has this verdict.
+/// The argument for the check of a child whose parent has this verdict.
 #[inline(always)]
 pub fn info_under(tree: &Tree, parent: Verdict, bounds: Bounds, layers: Layers, level: u8) -> Info
     ensures { let extent : Extent = record { bounds = bounds; layers = layers } in
@@ -96,8 +95,8 @@ pub fn info_under(tree: &Tree, parent: Verdict, bounds: Bounds, layers: Layers, 
     }
 }
 
-/// Walks over a tree from its root, which isn't checked, and returns how many nodes were opened. All that is
-/// accepted is taken, in whatever order. A visitor needs space for as many entries as there are, by what holds of each tree.
+/// Traverses a tree from its root, which isn't checked. Takes all accepted entries, in no stated order, and returns the
+/// number of opened nodes. The visitor needs space for all entries.
 pub(crate) fn walk<V: Visitor, G: Geometry>(
     tree: &Tree,
     visitor: &mut V,
@@ -124,7 +123,7 @@ pub(crate) fn walk<V: Visitor, G: Geometry>(
     opened
 }
 
-// Opens a node, and goes on under it: all its children are checked before the first of them is opened.
+// Opens a node and the nodes under it. All its children are checked before the first of them is opened.
 pub(crate) fn walk_under<V: Visitor, G: Geometry>(
     tree: &Tree,
     visitor: &mut V,
@@ -150,14 +149,14 @@ pub(crate) fn walk_under<V: Visitor, G: Geometry>(
 {
     let node = tree.node(number);
     *opened += 1;
-    // (in a local of its own, whose number of checks stays in a register)
+    // (a local, whose number of checks stays in a register)
     let mut own = counted.take();
     if node.level == 1 {
         visitor.visit_entries(tree, &mut own, node, parent);
         *counted = own;
         return;
     }
-    // (the level of each child, computed and not read, so that the compiler sees that none is an entry)
+    // (the level of each child is computed and not read, so that the compiler sees that no child is an entry)
     let level = node.level - 1;
     let has_scores = G::scores_nodes();
     let mut pending = Pending::new();
@@ -178,8 +177,8 @@ pub(crate) fn walk_under<V: Visitor, G: Geometry>(
     }
 }
 
-// Checks each child of a node above level 1: the children are on this level. Those that are opened wait; of the others the
-// visitor takes what is accepted.
+// Checks each child of a node above level 1. Children that are to be opened wait; of the others the visitor takes what is
+// accepted.
 #[inline(always)]
 fn check_children<V: Visitor, G: Geometry>(
     tree: &Tree,
@@ -219,7 +218,7 @@ fn check_children<V: Visitor, G: Geometry>(
         let whole = tree.node(number);
         let info = info_under(tree, parent, child.bounds, whole.layers, level);
         let verdict = counted.check(&info);
-        // (dropped first, so that no more is worked out of its state)
+        // (dropped first, so that its state isn't computed further)
         if verdict.within == Within::Not {
             continue;
         }

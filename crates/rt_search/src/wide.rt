@@ -1,4 +1,4 @@
-//! Items whose score is more than one word.
+//! Heap of the items whose score needs more than 64 bits.
 
 ghost use Rattle.std.specs.{BinaryHeap.{heap_items}, Prelude.{◌≡◌, ◌<◌, ◌≤◌, [], IfOk, length}};
 ghost use Rattle.rt_search.specs.{Items.{Waiting, item_cmp}, Kept.{IsKept, IsRising, IsTakenOut, in_order, wide_item}};
@@ -10,12 +10,12 @@ use std::cmp::Reverse;
 use std::collections::BinaryHeap;
 use std::marker::Model;
 
-/// The least score of more than one word.
+/// The lowest score that needs more than 64 bits.
 pub const WIDE: u128 = 1 << 64;
 
-/// Items, as they are, in a heap. Squares of distances reach one bit beyond a word, so that these are rare.
+/// A heap of items with wide scores. Squared distances need at most 65 bits, so such items are rare.
 ///
-/// It is seen as these items, in order, and its capacity.
+/// Contracts see the items in order, and the capacity.
 #[derive(Drop)]
 pub struct Wide {
     heap: BinaryHeap<Reverse<Item>>,
@@ -55,7 +55,7 @@ impl Wide {
         self.heap.clear();
     }
 
-    // (this and the next out of line, as wide items are rare)
+    // (this and the next are out of line, as wide items are rare)
     #[cold]
     #[inline(never)]
     pub fn put(&mut self, item: Item)
@@ -63,7 +63,7 @@ impl Wide {
         ensures items { self.new.items ≡ put item_cmp item self.old.items }
         ensures capacity { self.new.capacity ≡ self.old.capacity }
     {
-        // (there is capacity, so no memory is taken)
+        // (there is capacity, so nothing is allocated)
         let _pushed = self.heap.push(Reverse(item));
     }
 

@@ -1,4 +1,4 @@
--- The line that tells a fault of the table.
+-- The line that reports a fault of the table.
 use Rattle.std.specs.Prelude.{ℕ, List, ◌++◌, codes, decimal}
 use Rattle.rt_text.specs.declared.tables.Axis.TheVariants.{X, Y}
 use Rattle.rt_text.specs.declared.tables.TableFault.{TableFault}

@@ -39,7 +39,7 @@ abbrev pub word_as : {X : Type 0} → (read : List ℕ → Result X QueryFault) 
 word_as read [] = Err fault.MissingWord
 word_as read (word ∷ more) = map_value (λ found. (found, more)) (read word)
 
--- the word `key` stands next
+-- the next word is `key`
 abbrev pub is_next : (key : List ℕ) → List (List ℕ) → Bool
 is_next key [] = false
 is_next key (word ∷ more) = bytes_eq word key
@@ -88,7 +88,7 @@ circle words = do
   radius ← word_as (natural (2 ^ 32 - 1)) centre.1
   Ok (record { centre = centre.0; radius = radius.0 }, radius.1)
 
--- X1 Y1 .. XN YN, so many points
+-- X1 Y1 .. XN YN: `count` points
 abbrev pub points : (count : ℕ) → List (List ℕ) → Result (Taken (List Point)) QueryFault
 points zero words = Ok ([], words)
 points (suc n) words = do
@@ -130,11 +130,11 @@ layers_from so_far (part ∷ more) = do
   layer ← natural most_layer part
   layers_from (union so_far (only layer)) more
 
--- the layers of a LIST, whose parts stand between commas, each of them 44
+-- the layers of a LIST, whose parts are separated by commas, each of them byte 44
 abbrev pub layers_of : List ℕ → Result Layers QueryFault
 layers_of list = layers_from no_layers (slice_split (λ c. c == 44) list)
 
--- `on LIST`, where it stands next; all layers where it doesn't
+-- `on LIST`, if it is next; otherwise all layers
 abbrev pub on_list : List (List ℕ) → Result (Taken Layers) QueryFault
 on_list words = if is_next (codes "on") words then word_as layers_of (drop 1 words) else Ok (all_layers, words)
 
@@ -145,14 +145,14 @@ abbrev pub usual_order : Region → Order
 usual_order (Circle disc) = near disc.centre
 usual_order other = by_id
 
--- `near X Y` or `smallest`, where one stands next
+-- `near X Y` or `smallest`, if one is next
 abbrev pub order : Region → List (List ℕ) → Result (Taken Order) QueryFault
 order found words =
     if is_next (codes "near") words then taken_as near (point (drop 1 words))
     else if is_next (codes "smallest") words then Ok (Smallest (record {}), drop 1 words)
     else Ok (usual_order found, words)
 
--- `first K`, where it stands next, K of 64 bits
+-- `first K`, if it is next; K has 64 bits
 abbrev pub limit : List (List ℕ) → Result (Taken (Option ℕ)) QueryFault
 limit words =
     if is_next (codes "first") words then taken_as Some (word_as (natural (2 ^ 64 - 1)) (drop 1 words)) else Ok (None, words)
@@ -205,7 +205,7 @@ cost_of (Find region order limit layers) = CostFind region order limit layers
 cost_of (Count region layers) = CostCount region layers
 cost_of other = other
 
--- a query by its first word; after `cost` stands one for boxes, whose cost is requested and whose faults stay
+-- a query by its first word; `cost` is followed by a query for boxes, whose cost is requested and whose faults stay
 abbrev pub query : (verb : List ℕ) → (more : List (List ℕ)) → Result Query QueryFault
 query verb more =
     if bytes_eq verb (codes "levels") then map_value (λ end. Levels) (finished more)

@@ -1,4 +1,4 @@
--- The lines that query lines are answered with.
+-- The lines of replies.
 use Rattle.std.specs.Prelude.{ℕ, ℤ, List, ◌++◌, codes, decimal}
 use Rattle.std.specs.Fmt.{signed_decimal}
 use Rattle.rt_text.specs.declared.query.QueryFault.{QueryFault}
@@ -12,7 +12,7 @@ answer_line id score = signed_decimal id ++ codes " " ++ decimal score ++ codes 
 abbrev pub ok_line : (line n : ℕ) → List ℕ
 ok_line line n = codes "ok " ++ decimal line ++ codes " " ++ decimal n ++ codes "\n"
 
--- a level of the tree, and how many entries or nodes stand on it
+-- a level of the tree, and its number of entries or nodes
 abbrev pub level_line : (level n : ℕ) → List ℕ
 level_line level n = decimal level ++ codes " " ++ decimal n ++ codes "\n"
 

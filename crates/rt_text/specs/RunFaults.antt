@@ -1,4 +1,4 @@
--- What a run tells of a fault.
+-- What a run reports of a fault.
 use Rattle.std.specs.Prelude.{ℕ, List, codes}
 use Rattle.rt_text.specs.FaultLines.{fault_line}
 use Rattle.rt_text.specs.declared.tables.TableFault.{TableFault}
@@ -6,7 +6,7 @@ use Rattle.rt_text.specs.declared.tables.TableFault.TheVariants as load
 use Rattle.rt_text.specs.declared.run_faults.RunFault.{RunFault}
 use Rattle.rt_text.specs.declared.run_faults.RunFault.TheVariants.{Table, Read, Write, Memory}
 
--- what a run tells of a fault of the load: want of memory is the run's own
+-- what a run reports of a fault of the load: out of memory is the run's own
 abbrev pub run_fault : TableFault → RunFault
 run_fault load.Memory = Memory
 run_fault other = Table other
@@ -18,7 +18,7 @@ status_of Read = 4
 status_of Write = 5
 status_of Memory = 6
 
--- the line that tells a fault
+-- the line that reports a fault
 abbrev pub run_fault_line : RunFault → List ℕ
 run_fault_line (Table cause) = fault_line cause
 run_fault_line Read = codes "rtfilter: cannot read queries\n"

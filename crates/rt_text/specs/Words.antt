@@ -10,6 +10,6 @@ is_empty (c ∷ bytes) = false
 abbrev pub is_blank : ℕ → Bool
 is_blank c = c == 32 || c == 9
 
--- the words of a line: what stands between runs of blanks
+-- the words of a line, which are separated by runs of blanks
 abbrev pub words : List ℕ → List (List ℕ)
 words line = filter (λ word. not (is_empty word)) (slice_split is_blank line)

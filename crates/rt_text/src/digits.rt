@@ -1,11 +1,11 @@
-//! The digits of numbers, side by side in the lanes of a vector.
+//! Formats and reads decimal digits with vector instructions, several digits at once.
 
 ghost use Rattle.std.specs.{Int.Digits.{number_from_digits, AllBelowBase}, List.{prefix_len}};
 ghost use Rattle.std.specs.Prelude.{◌≡◌, ◌+◌, ◌*◌, ◌/◌, ◌%◌, ◌^◌, ◌<◌, ◌==◌, [], ◌∷◌, length, slice_index};
 
 use std::simd::prelude::*;
 
-/// The digits of a number below 10 ^ 16, the highest first, with zeros in front.
+/// The digits of a number below 10 ^ 16, the highest first, with leading zeros.
 #[inline(always)]
 pub(crate) fn sixteen_digits(number: u64) -> u8x16
     requires { number < 10 ^ 16 }
@@ -15,11 +15,11 @@ pub(crate) fn sixteen_digits(number: u64) -> u8x16
     let pairs = pairs(number);
     let tens = pairs / u16x8::splat(10);
     let ones = pairs - tens * u16x8::splat(10);
-    // A lane's lower byte is the first of its two.
+    // The lower byte of a lane is the first of its two digits.
     (tens + (ones << 8)).to_le_bytes()
 }
 
-// Two digits in a lane.
+// Two digits in each lane.
 #[inline(always)]
 fn pairs(number: u64) -> u16x8
     requires { number < 10 ^ 16 }
@@ -34,7 +34,7 @@ fn pairs(number: u64) -> u16x8
     upper.shuffle(lower, [0, 8, 1, 9, 2, 10, 3, 11])
 }
 
-// Four digits in a lane, of the first four lanes.
+// Four digits in each of the first four lanes.
 #[inline(always)]
 fn fours(number: u64) -> u16x8
     requires { number < 10 ^ 16 }
@@ -56,7 +56,7 @@ fn fours(number: u64) -> u16x8
     ])
 }
 
-/// How many zeros stand in front of digits that are not all zeros.
+/// The number of leading zeros of digits that are not all zeros.
 #[inline(always)]
 pub(crate) fn zeros_in_front(digits: u8x16) -> usize
     requires long { length digits ≡ 16 }
@@ -80,7 +80,7 @@ pub(crate) fn number_of(digits: u8x8) -> u64
     u64::from(fours[0]) * 10_000 + u64::from(fours[4])
 }
 
-// The numbers that four digits write each: of the first four in the first lane, of the others in the fifth.
+// The numbers that two groups of four digits write: the first group's in the first lane, the second's in the fifth.
 #[inline(always)]
 fn number_of_fours(digits: u8x8) -> [u16; 8]
     requires long { length digits ≡ 8 }

@@ -34,7 +34,7 @@ pub fn fault_line(fault: &TableFault) -> Line
     }
 }
 
-// A line on one record.
+// A line about one record.
 fn record_line(number: u32, text: &[u8]) -> Line
     requires { length text.now ≤ 84 }
     ensures { result ≡ record_line number text.now }
@@ -45,7 +45,7 @@ fn record_line(number: u32, text: &[u8]) -> Line
     line
 }
 
-// A line on one record, with a number in it.
+// A line about one record, with a number in it.
 fn numbered_line(number: u32, before: &[u8], n: u64, after: &[u8]) -> Line
     requires before { length before.now ≤ 32 }
     requires after { length after.now ≤ 32 }

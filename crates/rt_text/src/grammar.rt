@@ -1,7 +1,7 @@
-//! The grammar of query lines.
+//! Parses query lines by recursive descent.
 //!
 //! The functions follow the definitions of `specs/Queries.antt`: each takes the words that its definition takes, and
-//! answers what that answers.
+//! returns what that returns.
 
 ghost use Rattle.std.specs.Prelude.{◌≡◌, ◌≤◌, ◌≤ℤ◌, ◌∷◌, [], ℕ, IfErr, IfOk, List, MatchOption, Some, Ok, Err};
 ghost use Rattle.std.specs.Str.Lines.{strip_carriage_return};
@@ -20,10 +20,10 @@ use rt_geo::{
     Point, Polygon, PolygonFault, Region, Smallest, Window,
 };
 
-/// A part of a query, or what is wrong with it.
+/// A part of a query, or its first fault.
 type Judged<T> = Result<T, QueryFault>;
 
-/// What a line of any length asks, without its line feed. One carriage return at its end is dropped. It takes no memory.
+/// Parses a line of any length, without its line feed. One carriage return at its end is dropped. It allocates nothing.
 pub fn parse(line: &[u8]) -> Parsed
     ensures { result ≡ query_of line.now }
 {
@@ -32,8 +32,8 @@ pub fn parse(line: &[u8]) -> Parsed
     parsed
 }
 
-/// Writes what [`parse`] returns to `into`, whatever stands there. A query can hold a polygon: where many lines are
-/// parsed into one place, none is copied.
+/// Writes what [`parse`] returns to `into`, whatever that holds. A query can hold a polygon, so a caller that parses many
+/// lines into one variable copies none.
 pub fn parse_into(line: &[u8], into: &mut Parsed)
     ensures { into.new ≡ query_of line.now }
 {
@@ -56,7 +56,7 @@ pub fn parse_into(line: &[u8], into: &mut Parsed)
 
 // ---- queries
 
-// What is found is written where it is to stand, so that it isn't copied.
+// Results are written to the caller's variable, so that a query isn't copied.
 
 #[inline(always)]
 fn query(verb: &[u8], words: &mut Words, found: &mut Parsed) -> Judged<()>
@@ -71,7 +71,7 @@ fn query(verb: &[u8], words: &mut Words, found: &mut Parsed) -> Judged<()>
     }
 }
 
-// Kept out of line, as the next: a line clears what its own kind has need of, and no other.
+// Out of line, like the next: so a line clears the locals of its own kind alone.
 #[inline(never)]
 fn levels(words: &mut Words, found: &mut Parsed) -> Judged<()>
     ensures { Reads (map_value (λ end. Query.Levels) (finished words.old)) result found.new }
@@ -94,7 +94,7 @@ fn costed(words: &mut Words, found: &mut Parsed) -> Judged<()>
     Ok(())
 }
 
-// The cost of a find or a count.
+// The query for the cost of a find or a count.
 fn cost_of(query: Query) -> Query
     ensures { result ≡ cost_of query }
 {
@@ -188,7 +188,7 @@ fn finished(words: &mut Words) -> Judged<()>
 
 // ---- layers
 
-// Kept out of line, with what only lines with `on` have need of: in line it made all others slower.
+// Out of line, with what only lines with `on` need: inlined, it made all other lines slower.
 #[inline(never)]
 fn on_list(words: &mut Words) -> Judged<Layers>
     ensures { Takes (on_list words.old) result words.new }
@@ -291,7 +291,7 @@ fn circle(words: &mut Words) -> Judged<Circle>
     Ok(Circle { centre, radius })
 }
 
-// Kept out of line, as lines with `on` and `cost`.
+// Out of line, like lines with `on` and `cost`.
 #[inline(never)]
 fn polygon(words: &mut Words) -> Judged<Polygon>
     ensures { Takes (polygon words.old) result words.new }
@@ -315,7 +315,7 @@ fn vertex_count(words: &mut Words) -> Judged<usize>
     Ok(count.unsigned_abs() as usize)
 }
 
-// As many points as the count, one after the other.
+// Reads `count` points.
 #[inline(always)]
 fn points(count: usize, words: &mut Words, found: &mut ArrayVec<Point, MOST_VERTICES>) -> Judged<()>
     requires few { count ≤ MOST_VERTICES }
@@ -350,8 +350,8 @@ fn coordinate(words: &mut Words) -> Judged<i32>
     }
 }
 
-// The next word's number, where `Words::next_number` reads it. Coordinates have this function to themselves, since they
-// are much alike: counts and limits would make the processor mispredict its branches.
+// The next word's number, if `Words::next_number` reads it. Coordinates have this function to themselves: they look much
+// alike, and counts and limits would make the processor mispredict its branches.
 #[inline(never)]
 fn usual_coordinate(words: &mut Words) -> Option<i64>
     ensures { MatchOption result (words.new ≡ words.old)
@@ -360,7 +360,7 @@ fn usual_coordinate(words: &mut Words) -> Option<i64>
     words.next_number()
 }
 
-// The next word as a coordinate, or why it is none.
+// The next word as a coordinate, or its fault.
 #[inline(never)]
 fn any_coordinate(words: &mut Words) -> Judged<i32>
     ensures { Takes (word_as coordinate words.old) result words.new }
@@ -378,7 +378,7 @@ fn natural_word(words: &mut Words, high: u64) -> Judged<u64>
     Ok(value.unsigned_abs() as u64)
 }
 
-// The next word, which has to be there.
+// The next word, or the fault of a missing one.
 fn next_word<'a>(words: &mut Words<'a>) -> Judged<&'a [u8]>
     ensures word { IfOk result (λ word. words.old ≡ word.now ∷ words.new) }
     ensures missing { IfErr result (λ cause. (cause ≡ QueryFault.MissingWord) × (words.old ≡ [])) }
@@ -401,7 +401,7 @@ fn number_word(outside: QueryFault, low: i128, high: i128, words: &mut Words) ->
     Ok(value)
 }
 
-// The same whatever the word is.
+// The same for any word.
 #[inline(never)]
 fn any_number_word(outside: QueryFault, low: i128, high: i128, words: &mut Words) -> Judged<i128>
     ensures takes { Takes (word_as (number outside low high) words.old) result words.new }

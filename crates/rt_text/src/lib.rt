@@ -1,13 +1,13 @@
-//! Text in and text out: numbers, the table's CSV, query lines, and the lines that are answered.
+//! Text in and text out: numbers, the table's CSV, query lines, and the lines of replies.
 //!
-//! - [`number`] reads a number of a range (`specs/Numbers.antt`).
-//! - [`read_table`] reads a whole table, or returns its first fault. What a table's text means is `table_of` of
-//!   `specs/Tables.antt`, which rests on csv's own words for the records of a text. [`fault_line`] says a fault
-//!   of the table in one line.
-//! - [`parse`] returns what a query line asks for, or its first fault: `query_of` of `specs/Queries.antt`.
-//!   [`parse_into`] writes it where it is to stand.
-//! - [`answer_line`], [`ok_line`], [`level_line`] and [`error_line`] are the lines that a query line is answered
-//!   with (`specs/ReplyLines.antt`). Each is a [`Line`], a text of at most 128 bytes.
+//! - [`number`] reads a number in a range (`specs/Numbers.antt`).
+//! - [`read_table`] reads a whole table, or returns its first fault. The meaning of a table's text is `table_of` of
+//!   `specs/Tables.antt`, over csv's own definition of the records of a text. [`fault_line`] formats a fault
+//!   of the table as one line.
+//! - [`parse`] returns the query of a line, or its first fault: `query_of` of `specs/Queries.antt`.
+//!   [`parse_into`] writes it to a variable of the caller.
+//! - [`answer_line`], [`ok_line`], [`level_line`] and [`error_line`] are the lines of replies
+//!   (`specs/ReplyLines.antt`). Each is a [`Line`], a text of at most 128 bytes.
 //! - A [`RunFault`] is why a run ended early, with its status and its line (`specs/RunFaults.antt`).
 #![tactic(auto)]
 

@@ -1,4 +1,4 @@
-//! A short line of text.
+//! A short line of text in a fixed buffer, built from its end.
 
 ghost use Rattle.std.specs.{Fmt.{signed_decimal}, Int.Digits.{AllBelowBase}};
 ghost use Rattle.std.specs.Prelude.{◌≡◌, ◌+◌, ◌++◌, ◌<◌, ◌≤◌, ◌∷◌, [], decimal, drop, length, map};
@@ -11,20 +11,20 @@ use std::simd::prelude::*;
 /// The most bytes of a line, its line feed included.
 const MOST_BYTES: usize = 128;
 
-/// From here on a number's digits are written side by side.
+/// Below this a number's digits are written two at a time.
 const SHORT: u64 = 100_000_000;
 
-/// From here on a number has more digits than are written side by side.
+/// Below this a number's digits fit into one vector.
 const LONG: u64 = 10_000_000_000_000_000;
 
-/// A line of text of at most 128 bytes, its line feed included. It takes no memory beyond its own.
+/// A line of text of at most 128 bytes, its line feed included. It allocates nothing.
 ///
-/// It is put together from its end, since a number's last digit is known first.
+/// It is built from its end, since the last digit of a number is known first.
 #[derive(Debug, Drop)]
 pub struct Line {
-    // its bytes, in the back of the buffer
+    // the line's bytes are at the end of the buffer
     buffer: [u8; MOST_BYTES],
-    // where they start
+    // the index of the first of them
     start: usize,
 }
 
@@ -65,14 +65,14 @@ impl Line {
         line
     }
 
-    /// Gives up its bytes, so that another line can be put together in its place.
+    /// Makes the line empty, to build another one in it.
     pub(crate) fn clear(&mut self)
         ensures { self.new ≡ [] }
     {
         self.start = MOST_BYTES;
     }
 
-    /// Puts more bytes before its own.
+    /// Prepends bytes.
     pub(crate) fn prepend(&mut self, text: &[u8])
         requires { length self.old + length text.now ≤ MOST_BYTES }
         ensures { self.new ≡ text.now ++ self.old }
@@ -82,7 +82,7 @@ impl Line {
         self.buffer[self.start..end].copy_from_slice(text);
     }
 
-    /// Puts one more byte before its own.
+    /// Prepends a byte.
     pub(crate) fn prepend_byte(&mut self, byte: u8)
         requires { length self.old + 1 ≤ MOST_BYTES }
         ensures { self.new ≡ byte ∷ self.old }
@@ -91,7 +91,7 @@ impl Line {
         self.buffer[self.start] = byte;
     }
 
-    /// Puts a number before its bytes.
+    /// Prepends a number.
     pub(crate) fn prepend_number(&mut self, number: u64)
         requires { length self.old + 20 ≤ MOST_BYTES }
         ensures value { self.new ≡ decimal number ++ self.old }
@@ -112,8 +112,8 @@ impl Line {
         self.start = write_digits(number, &mut self.buffer, self.start);
     }
 
-    // The same for a number of nine digits or more, sixteen of them side by side. Branchless in how many there are,
-    // which would be mispredicted.
+    // The same for a number of nine digits or more, sixteen of them in one vector. Branchless: a processor would mispredict
+    // the number of digits.
     #[inline(never)]
     fn prepend_long(&mut self, number: u64)
         requires capacity { length self.old + 20 ≤ MOST_BYTES }
@@ -131,7 +131,7 @@ impl Line {
         }
     }
 
-    // Puts sixteen digits before its bytes.
+    // Prepends sixteen digits.
     fn prepend_digits(&mut self, digits: u8x16)
         requires capacity { length self.old + 16 ≤ MOST_BYTES }
         requires digits { (length digits ≡ 16) × AllBelowBase 10 digits }
@@ -140,7 +140,7 @@ impl Line {
         self.prepend(&(digits + u8x16::splat(b'0')).to_array());
     }
 
-    // Gives up its first bytes.
+    // Removes the first `count` bytes.
     fn drop_first(&mut self, count: usize)
         requires { count ≤ length self.old }
         ensures { self.new ≡ drop count self.old }
@@ -148,8 +148,8 @@ impl Line {
         self.start += count;
     }
 
-    /// Puts a number of up to 128 bits before its bytes. One of a single digit is written fastest, and one that fits
-    /// 64 bits faster than a longer one.
+    /// Prepends a number of up to 128 bits. A single digit is written fastest, and a number that fits 64 bits faster than a
+    /// longer one.
     #[inline(always)]
     pub(crate) fn prepend_wide(&mut self, number: u128)
         requires { length self.old + 40 ≤ MOST_BYTES }
@@ -176,7 +176,7 @@ impl Line {
         self.prepend(Buffer::new().format(number).as_bytes());
     }
 
-    /// Puts a number with a sign before its bytes.
+    /// Prepends a number with its sign.
     pub(crate) fn prepend_signed(&mut self, number: i64)
         requires { length self.old + 21 ≤ MOST_BYTES }
         ensures value { self.new ≡ signed_decimal number ++ self.old }
@@ -187,7 +187,7 @@ impl Line {
         }
     }
 
-    /// Its bytes.
+    /// The bytes of the line.
     pub fn bytes(&self) -> &[u8]
         ensures value { result.now ≡ self.now }
         ensures short { length result.now ≤ MOST_BYTES }

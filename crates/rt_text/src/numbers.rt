@@ -1,4 +1,4 @@
-//! Numbers as text.
+//! Reads decimal numbers.
 
 ghost use Rattle.std.specs.{Char.{is_ascii_digit}, List.{list_all}, Prelude.{◌≡◌, ◌≤ℤ◌, ◌<◌, ◌≤◌, ◌^◌, IfOk, IfSome}};
 ghost use Rattle.std.specs.Prelude.{Some, length, min, option_map, ok_or, take, IsTrue};
@@ -8,13 +8,13 @@ ghost use Rattle.rt_text.specs.Numbers.{digits_number, number_in, number_text};
 use crate::digits::number_of;
 use std::simd::prelude::*;
 
-/// As many digits as an `i64` can hold, whichever they are and with either sign.
+/// The most digits that always fit an `i64`, with either sign.
 const SHORT: usize = 18;
 
-/// As many digits as are judged at once, so that a processor may take them side by side.
+/// The number of digits that are tested at once, in one vector.
 const GROUP: usize = 8;
 
-/// Why a text is no number of a range.
+/// Why a text is no number in a range.
 #[derive(Clone, Copy, Debug, PartialEq, Eq)]
 pub enum NumberFault {
     /// It isn't an optional sign and one or more ASCII digits.
@@ -23,15 +23,15 @@ pub enum NumberFault {
     OutOfRange,
 }
 
-/// A number in front of a text: what it is, and how many bytes it takes.
+/// A number at the start of a text, and how many bytes it takes.
 #[derive(Clone, Copy)]
 pub(crate) struct Leading<T> {
     pub(crate) number: T,
     pub(crate) len: usize,
 }
 
-/// The number that a text gives, where it lies in a range: an optional `+` or `-`, then one or more
-/// ASCII digits, as many as there are.
+/// The number that a text writes, if it is within a range: an optional `+` or `-`, then one or more ASCII digits, any
+/// number of them.
 pub fn number(text: &[u8], low: i128, high: i128) -> Result<i128, NumberFault>
     ensures value { result ≡ number_in low high text.now }
     ensures within { IfOk result (λ n. (low ≤ℤ n) × (n ≤ℤ high)) }
@@ -59,7 +59,7 @@ pub(crate) fn number_64(text: &[u8], low: i64, high: i64) -> Result<i64, NumberF
     }
 }
 
-/// A number in front of a text, whatever stands behind it: a sign if there is one, and its digits up to the 18th.
+/// The number at the start of a text, whatever follows: its sign, if any, and up to 18 digits.
 #[inline(always)]
 pub(crate) fn leading_number(text: &[u8]) -> Option<Leading<i64>>
     ensures within { IfSome result (λ found. found.len ≤ length text.now) }
@@ -80,7 +80,7 @@ pub(crate) fn leading_number(text: &[u8]) -> Option<Leading<i64>>
     Some(Leading { number, len })
 }
 
-// The digits in front of a text, up to the 18th.
+// The digits at the start of a text, up to the 18th.
 #[inline(always)]
 fn leading_digits(text: &[u8]) -> Leading<u64>
     ensures within { result.len ≤ length text.now }
@@ -100,7 +100,7 @@ fn leading_digits(text: &[u8]) -> Leading<u64>
     Leading { number, len: most }
 }
 
-// The first bytes of a text, where they are all digits, and else none.
+// The first bytes of a text if all of them are digits, otherwise none.
 #[inline(always)]
 fn leading_group(text: &[u8]) -> Leading<u64>
     ensures within { result.len ≤ min (length text.now) GROUP }
@@ -118,7 +118,7 @@ fn leading_group(text: &[u8]) -> Leading<u64>
     }
 }
 
-// Whether all bytes are digits. All are looked at, in any order.
+// Whether all bytes are digits. All are tested, so that the compiler may use vectors.
 #[inline(always)]
 fn all_digits(text: &[u8]) -> bool
     ensures { result ≡ list_all is_ascii_digit text.now }
@@ -130,7 +130,7 @@ fn all_digits(text: &[u8]) -> bool
     all
 }
 
-// The number that a group of digits writes, all taken at once.
+// The number that a group of digits writes, computed in one vector.
 #[inline(always)]
 fn written(digits: &[u8]) -> u64
     requires long { length digits.now ≡ GROUP }
@@ -141,7 +141,7 @@ fn written(digits: &[u8]) -> u64
     number_of(u8x8::from_slice(digits) - u8x8::splat(b'0'))
 }
 
-// What stands behind a sign, if there is one. Branchless, since whether there is one would be mispredicted.
+// The text without its sign, if it has one. Branchless: a processor would mispredict whether there is one.
 fn without_sign(text: &[u8]) -> &[u8]
     requires { 0 < length text.now }
     ensures { result.now ≡ without_leading_sign text.now }
@@ -150,7 +150,7 @@ fn without_sign(text: &[u8]) -> &[u8]
     &text[signed as usize..]
 }
 
-// The number that a text gives, where an `i128` can hold it.
+// The number that a text writes, if an `i128` can hold it.
 fn signed(text: &[u8]) -> Result<i128, NumberFault>
     ensures { result ≡ number_in i128.MIN i128.MAX text.now }
 {
@@ -166,7 +166,7 @@ fn signed(text: &[u8]) -> Result<i128, NumberFault>
     number.ok_or(NumberFault::OutOfRange)
 }
 
-// The number that digits write, or the greatest `u128` where it is above that.
+// The number that digits write, or the greatest `u128` if it is above that.
 fn magnitude(digits: &[u8]) -> Result<u128, NumberFault>
     ensures { result ≡ ok_or
         (option_map (λ n. min n u128.MAX) (digits_number digits.now)) NumberFault.NotNumber }

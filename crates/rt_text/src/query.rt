@@ -1,32 +1,33 @@
-//! What a query line asks.
+//! Parsed query lines and their faults.
 
 use rt_geo::{Layers, Order, Region};
 
 /// A query. Its answers are the boxes that the region accepts and whose layer is among the layers.
 #[derive(Debug, PartialEq, Eq, Drop)]
 pub enum Query {
-    /// A line for each answer, in this order, up to the limit where there is one, and then their number.
+    /// Returns a line for each answer, in this order and up to the limit, if any, and then their number.
     Find {
         region: Region,
         order: Order,
         limit: Option<u64>,
         layers: Layers,
     },
-    /// The number of answers.
+    /// Returns the number of answers.
     Count {
         region: Region,
         layers: Layers,
     },
-    /// How many entries or nodes stand on each level of the tree.
+    /// Returns the number of entries or nodes on each level of the tree.
     Levels,
-    /// How many nodes a find opens. Where answers reach their limit, only those up to the last answer count.
+    /// Returns the number of nodes that a find opens. If answers reach their limit, nodes opened after the last one don't
+    /// count.
     CostFind {
         region: Region,
         order: Order,
         limit: Option<u64>,
         layers: Layers,
     },
-    /// How many nodes a count opens.
+    /// Returns the number of nodes that a count opens.
     CostCount {
         region: Region,
         layers: Layers,
@@ -36,14 +37,14 @@ pub enum Query {
 /// What is wrong with a query line: the first fault from left to right.
 #[derive(Clone, Copy, Debug, PartialEq, Eq)]
 pub enum QueryFault {
-    /// The line is too long. [`parse`](crate::parse) takes lines of any length and never returns this: the length is judged
-    /// where lines are cut.
+    /// The line is too long. [`parse`](crate::parse) takes lines of any length and never returns this: the code that cuts
+    /// lines tests their length.
     LineTooLong,
-    /// The first word is no query, or the one after `cost` none that has a cost.
+    /// The first word is no query, or the word after `cost` is none that has a cost.
     UnknownVerb,
     /// No region has that name.
     UnknownRegion,
-    /// The line ends where a word is expected.
+    /// The line ends before an expected word.
     MissingWord,
     /// The word is no number.
     NotNumber,
@@ -55,11 +56,11 @@ pub enum QueryFault {
     VertexCount,
     /// The vertices are those of no strictly convex polygon, either way round.
     NotConvex,
-    /// A word stands where none or another is allowed.
+    /// There is a word where none or another is allowed.
     StrayWord,
 }
 
-/// What a query line holds.
+/// The result of parsing a query line.
 #[derive(Debug, PartialEq, Eq, Drop)]
 pub enum Parsed {
     /// No words, or a comment.

@@ -24,7 +24,7 @@ pub fn ok_line(line: u128, n: u64) -> Line
     text
 }
 
-/// The line of a level of the tree: how many entries or nodes stand on it.
+/// The line of a level of the tree: its number of entries or nodes.
 pub fn level_line(level: u8, n: u32) -> Line
     ensures { result ≡ level_line level n }
 {
@@ -35,7 +35,7 @@ pub fn level_line(level: u8, n: u32) -> Line
     text
 }
 
-/// The line that answers a faulty query line.
+/// The reply to a faulty query line.
 pub fn error_line(line: u128, fault: QueryFault) -> Line
     ensures { result ≡ error_line line fault }
 {
@@ -47,7 +47,7 @@ pub fn error_line(line: u128, fault: QueryFault) -> Line
     text
 }
 
-/// [`answer_line`] in the place of another line, so that each of many answers is put together where it is read.
+/// Replaces a line by [`answer_line`], so that the lines of many answers are built in one buffer.
 pub fn set_answer_line(text: &mut Line, id: i64, score: u128)
     ensures { text.new ≡ answer_line id score }
 {
@@ -58,7 +58,7 @@ pub fn set_answer_line(text: &mut Line, id: i64, score: u128)
     text.prepend_signed(id);
 }
 
-/// [`ok_line`] in the place of another line.
+/// Replaces a line by [`ok_line`].
 pub fn set_ok_line(text: &mut Line, line: u128, n: u64)
     ensures { text.new ≡ ok_line line n }
 {

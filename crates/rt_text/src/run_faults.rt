@@ -9,7 +9,7 @@ use crate::tables::TableFault;
 use std::alloc::AllocError;
 use thiserror::Error;
 
-/// Why a run ended before all was read and written.
+/// Why a run ended early.
 #[derive(Clone, Copy, Debug, Drop, Error, PartialEq, Eq)]
 pub enum RunFault {
     /// The table is faulty, or couldn't be read.
@@ -21,13 +21,13 @@ pub enum RunFault {
     /// A push or a flush of the output failed.
     #[error("cannot write answers")]
     Write,
-    /// No memory was left.
+    /// Out of memory.
     #[error("out of memory")]
     Memory,
 }
 
 impl RunFault {
-    /// The exit status of a run that ends with it, 3 to 6.
+    /// The exit status of a run that ends with this fault, 3 to 6.
     pub fn status(self) -> u8
         ensures { result ≡ status_of self }
     {

@@ -1,9 +1,9 @@
-//! The table: its records, how they are judged, and what is wrong with one.
+//! Reads the table from CSV: checks its records, and returns the entries or the first fault.
 //!
-//! Records are those of `csv` with its usual settings, of any number of fields: commas, fields in double
-//! quotes with quotes doubled inside, ends by LF, CR or both, empty lines and a byte order mark passed over.
-//! A record is five numbers: an id, the least and the greatest x, the least and the greatest y. A sixth may follow, the
-//! layer, which is 0 where it doesn't stand.
+//! Records are those of `csv` with its usual settings, of any number of fields: commas, fields in double quotes with
+//! doubled quotes inside, ends by LF, CR or both; empty lines and a byte order mark are skipped. A record is five numbers:
+//! an id, the minimum and the maximum x, the minimum and the maximum y. A sixth may follow, the layer; it is 0 if it is
+//! missing.
 
 ghost use Rattle.std.specs.{List.{slice_index_or}, Prelude.{◌≡◌, ◌≤ℤ◌, ◌<◌, ◌≤◌, ◌++◌, ◌∷◌, [], length, ◌⊎◌, List, ℕ}};
 ghost use Rattle.std.specs.Prelude.{pos, unsigned_abs, Result, Ok, Some, None, IsOkAnd, IfOk, IfErr, OnErr, OnOk, All, IsTrue};
@@ -27,10 +27,10 @@ pub enum Axis {
     Y,
 }
 
-/// What is wrong with a table, with the number of the record, which counts from 1, and of the field.
+/// A fault of a table, with the number of the record, from 1, and of the field, from 1.
 #[derive(Clone, Copy, Debug, PartialEq, Eq)]
 pub enum TableFault {
-    /// The record comes after as many entries as are allowed.
+    /// The record comes after the maximum number of entries.
     TooMany { number: u32 },
     /// The record has neither five nor six fields.
     FieldCount { number: u32, found: u64 },
@@ -40,26 +40,26 @@ pub enum TableFault {
     OutOfRange { number: u32, field: u8 },
     /// The minimum is above the maximum.
     MinAboveMax { number: u32, axis: Axis },
-    /// An earlier record has the id.
+    /// An earlier record has the same id.
     Repeated { number: u32 },
     /// The reader failed.
     Read,
-    /// No memory was left.
+    /// Out of memory.
     Memory,
 }
 
 /// The number of fields of a record without a layer: `id`, `minX`, `maxX`, `minY` and `maxY`.
 const FIELDS_WITHOUT_LAYER: usize = 5;
 
-/// The number of fields of a record whose layer stands behind these.
+/// The number of fields of a record with a layer.
 const FIELDS_WITH_LAYER: usize = 6;
 
-/// A part of a table, or what is wrong with it.
+/// A part of a table, or its fault.
 type Judged<T> = Result<T, TableFault>;
 
-/// The table that a reader's bytes give: at most `max` boxes, each under an id of its own. With `header` the
-/// first record is counted and not judged. The fault of the first record that has one is returned; `Read` and `Memory`
-/// stand in the place of whatever would follow where they come.
+/// Reads a table: at most `max` boxes, with distinct ids. With `header` the first record is counted and not checked.
+/// Returns the fault of the first record that has one. `Read` and `Memory` come when the reader fails or memory runs out,
+/// instead of whatever would follow.
 pub fn read_table<R: Read + Drop>(
     alloc: Global,
     reader: R,
@@ -74,12 +74,12 @@ pub fn read_table<R: Read + Drop>(
 {
     let mut entries = Entries::empty(alloc);
     let end = read_entries(alloc, reader, header, max, &mut entries);
-    // (a repeated id is reported first: what ended the load stands after it)
+    // (a repeated id is reported first: it is in an earlier record than the fault that ended the load)
     let table = table_of_entries(alloc, header, entries)?;
     end.and(Ok(table))
 }
 
-// Reads the entries of records, and compares no ids. At a fault the entries are those of the records before.
+// Reads the entries of records, without comparing ids. After a fault the entries are those of the records before.
 fn read_entries<R: Read + Drop>(
     alloc: Global,
     reader: R,
@@ -99,7 +99,7 @@ fn read_entries<R: Read + Drop>(
         .has_headers(false)
         .from_reader(alloc, reader);
     let mut fields = ByteRecord::new(alloc);
-    // At most a header, `max` entries and one record more are read.
+    // At most a header, `max` entries and one more record are read.
     for number in 1..max + 3 {
         if !next_record(&mut records, &mut fields)? {
             return Ok(());
@@ -112,7 +112,7 @@ fn read_entries<R: Read + Drop>(
     unreachable!()
 }
 
-// The table of the entries that were read, if no id comes again.
+// The table of the entries that were read, if their ids are distinct.
 fn table_of_entries(alloc: Global, header: bool, entries: Entries) -> Judged<Table>
     requires most { length entries ≤ most_entries }
     requires layers { All HasLayer entries }
@@ -130,14 +130,14 @@ fn table_of_entries(alloc: Global, header: bool, entries: Entries) -> Judged<Tab
     }
 }
 
-// The number of the record that gives the first entry.
+// The number of the record of the first entry.
 fn first_number(header: bool) -> u32
     ensures { result ≡ first_number header }
 {
     if header { 2 } else { 1 }
 }
 
-// The next record, where there is one. After an error, which is of the reader or of memory, there is none.
+// The next record, if there is one. After an error, of the reader or for lack of memory, there is none.
 fn next_record<R: Read>(records: &mut Reader<R>, fields: &mut ByteRecord) -> Judged<bool>
     requires { IsReading records.old }
     ensures reads { IfOk result (λ found.
@@ -154,7 +154,7 @@ fn next_record<R: Read>(records: &mut Reader<R>, fields: &mut ByteRecord) -> Jud
     }
 }
 
-// Judges one record, but for whether its id comes again, and adds its entry.
+// Checks one record, apart from whether its id is repeated, and adds its entry.
 fn add_entry(max: u32, number: u32, fields: &ByteRecord, entries: &mut Entries) -> Judged<()>
     requires { All HasLayer entries.old }
     ensures added { OnOk result (IsOkAnd (entry_after max number entries.old (fields_of fields.now))
@@ -201,7 +201,7 @@ fn entry_of(number: u32, fields: &ByteRecord) -> Judged<Entry>
     Ok(Entry { id, bounds, layer })
 }
 
-// The text of a field that is there, at a place that counts from 0.
+// The text of an existing field, at an index from 0.
 fn text_at(fields: &ByteRecord, place: usize) -> &[u8]
     requires { place < length (fields_of fields.now) }
     ensures { result.now ≡ slice_index_or (fields_of fields.now) place [] }
@@ -219,7 +219,7 @@ fn coordinate_at(number: u32, field: u8, fields: &ByteRecord) -> Judged<i32>
     Ok(number_at(number, field, low, high, fields)? as i32)
 }
 
-// The layer in the sixth field. Kept out of line, as most tables have none.
+// The layer in the sixth field. Out of line, as most tables have none.
 #[inline(never)]
 fn sixth_field(number: u32, fields: &ByteRecord) -> Judged<u8>
     requires { FIELDS_WITH_LAYER ≤ length (fields_of fields.now) }
@@ -231,7 +231,7 @@ fn sixth_field(number: u32, fields: &ByteRecord) -> Judged<u8>
     Ok(layer.unsigned_abs() as u8)
 }
 
-// The number in a field that is there, within a range.
+// The number in an existing field, within a range.
 #[inline(always)]
 fn number_at(number: u32, field: u8, low: i64, high: i64, fields: &ByteRecord) -> Judged<i64>
     requires { (0 < field) × (field ≤ length (fields_of fields.now)) }

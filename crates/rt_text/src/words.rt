@@ -1,4 +1,4 @@
-//! The words of a line.
+//! Splits a line into words.
 
 ghost use Rattle.std.specs.{List.{position_or_len}, Prelude.{◌≡◌, ◌==◌, ℕ, List, [], ◌∷◌, ◌↔◌, IsTrue, Some, MatchOption}};
 ghost use Rattle.std.specs.Prelude.{drop, if◌then◌else◌, not, position};
@@ -7,7 +7,7 @@ ghost use Rattle.rt_text.specs.{Numbers.{number_text}, Queries.{is_next}, Words.
 use crate::numbers::leading_number;
 use std::marker::Model;
 
-/// The words of a line that are still to be read: what stands between runs of spaces and tabs.
+/// The words of a line that are still to be read. Words are separated by runs of spaces and tabs.
 #[derive(Drop)]
 pub(crate) struct Words<'a> {
     rest: &'a [u8],
@@ -30,7 +30,7 @@ impl<'a> Words<'a> {
         Words { rest: line }
     }
 
-    /// The next word's number, where it is a usual one: behind one space or none, of at most 18 digits. Where it isn't,
+    /// The next word's number, if the word has the usual form: after at most one space, with at most 18 digits. Otherwise
     /// no word is read.
     #[inline(always)]
     pub(crate) fn next_number(&mut self) -> Option<i64>
@@ -47,7 +47,7 @@ impl<'a> Words<'a> {
         Some(found.number)
     }
 
-    /// Whether a word stands next, which is then read.
+    /// Whether the next word is this one; if so, it is read.
     #[inline(always)]
     pub(crate) fn takes(&mut self, word: &[u8]) -> bool
         ensures next { result ≡ is_next word.now self.old }

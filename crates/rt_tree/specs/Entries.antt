@@ -13,8 +13,8 @@ ids_of entries = map (λ e. e.id) entries
 abbrev pub has_id : List Entry → ℤ → Bool
 has_id entries id = list_any (λ e. int_eq id e.id) entries
 
--- the place of the first of these entries whose id one so far has, where they stand after those so far and each is one
--- of them for the next
+-- the index of the first of these entries whose id one before it has; `so_far` are the entries before them, and each entry
+-- belongs to these for the next
 abbrev pub repeat_after : (so_far entries : List Entry) → Option ℕ
 repeat_after so_far [] = None
 repeat_after so_far (entry ∷ more) =

@@ -1,4 +1,4 @@
--- Entries whose layers stand in a list of their own.
+-- Entries with their layers in a list of their own.
 use Rattle.std.specs.List.{zip}
 use Rattle.std.specs.Prelude.{ℕ, List, map}
 use Rattle.rt_geo.specs.declared.entry.Entry.{Entry}

@@ -14,7 +14,7 @@ use Rattle.rt_tree.specs.declared.tree.Node.{Node}
 
 -- ---- what a tree holds
 
--- a tree: at most so many children for each node, the entries by place, and the nodes by number
+-- a tree: the most children of a node, the entries by index, and the nodes by number
 pub record Packed : Type 0 where
   pub fanout : ℕ
   pub entries : List Entry
@@ -28,7 +28,7 @@ child_entries t n = take n.count (drop n.first t.entries)
 abbrev pub child_nodes : Packed → Node → List Node
 child_nodes t n = take n.count (drop n.first t.nodes)
 
--- the entries under a node that has so many levels of nodes below it
+-- the entries under a node that has `below` levels of nodes below it
 abbrev pub entries_under : Packed → (below : ℕ) → Node → List Entry
 entries_under t zero n = child_entries t n
 entries_under t (suc below) n = flat_map (entries_under t below) (child_nodes t n)
@@ -99,13 +99,13 @@ pub record IsInnerNode (t : Packed) (levels : ℕ) (Below : Node → Type 0) (n 
   pub within : AllByRecursion (λ k. IsPart (extent_of_node k) (extent_of_node n)) (child_nodes t n)
   pub size : n.size ≡ sum_by (λ k. k.size) (child_nodes t n)
 
--- a node that has so many levels of nodes below it
+-- a node with `below` levels of nodes below it
 abbrev pub IsSubtree : Packed → (below : ℕ) → Node → Type 0
 IsSubtree t zero n = IsLeafNode t n
 IsSubtree t (suc below) n = IsInnerNode t below (IsSubtree t below) n
 
--- a tree that a search may rest on: the entries are a table's, each stands once under the root, and each node is what
--- its level asks for
+-- a tree that a search may rely on: the entries are a table's, each is once under the root, and each node is as its level
+-- requires
 pub record IsSound (t : Packed) : Type 0 where
   pub several : 2 ≤ t.fanout
   pub table : IsTable t.entries
@@ -124,7 +124,7 @@ nodes_under t n = if nat_lt 1 n.level then child_nodes t n else []
 abbrev pub right_under : Packed → Node → List Entry
 right_under t n = if n.level == 1 then child_entries t n else []
 
--- each entry is a child of exactly one node, and so is each node but the root; the nodes stand level by level
+-- each entry is a child of exactly one node, and so is each node but the root; the nodes are in order of level
 pub record IsWhole (t : Packed) : Type 0 where
   pub entries_once : IsPermutation (flat_map (right_under t) t.nodes) t.entries
   pub nodes_once : 0 < length t.nodes → IsPermutation (root_of t ∷ flat_map (nodes_under t) t.nodes) t.nodes

@@ -53,7 +53,7 @@ groups box fanout items = map (map (λ p. p.1)) (tiles box fanout items)
 abbrev pub joined : {X : Type 0} → List (List X) → List X
 joined = flat_map (λ xs. xs)
 
--- the node over a group of items, of which the first stands at this place
+-- the node over a group of items, the first of which is at this index
 abbrev pub node_over : {X : Type 0} → (extent : X → Extent) → (size : X → ℕ) → (level first : ℕ) → List X → Node
 node_over extent size level first group = record {
   layers = union_of (map (λ x. (extent x).layers) group);
@@ -64,7 +64,7 @@ node_over extent size level first group = record {
   level = level;
 }
 
--- a node over each group: the items stand one after the other from this place on, group by group
+-- a node over each group: the items of the groups follow each other from this index on
 abbrev pub nodes_over : {X : Type 0} → (extent : X → Extent) → (size : X → ℕ) → (level first : ℕ) → List (List X)
     → List Node
 nodes_over extent size level first [] = []
@@ -73,9 +73,9 @@ nodes_over extent size level first (group ∷ more) =
 
 -- ---- level by level
 
--- the nodes of this level, in the order in which the level above it is cut, and then those of all levels above, up to
--- one that has a single node. They are numbered as they stand, from `first` on, and a node's first child is given by its
--- number. The fuel is no less than the number of levels
+-- the nodes of this level, in the order in which the level above it is cut, and then those of all levels above, up to one
+-- with a single node. They are numbered in this order, from `first` on, and a node's first child is given by its number.
+-- The fuel is at least the number of levels
 abbrev pub nodes_from : (fuel fanout level first : ℕ) → List Node → List Node
 nodes_from zero fanout level first nodes = nodes
 nodes_from (suc fuel) fanout level first nodes =

@@ -1,4 +1,4 @@
--- Nodes whose layers stand in a list of their own.
+-- Nodes with their layers in a list of their own.
 use Rattle.std.specs.List.{zip}
 use Rattle.std.specs.Prelude.{List, map}
 use Rattle.rt_geo.specs.declared.layers.Layers.{Layers}

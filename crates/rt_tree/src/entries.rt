@@ -1,6 +1,6 @@
-//! Entries in order, their layers in a list of their own.
+//! A list of entries, with the layers in an array of their own.
 //!
-//! So a search that looks at no layers reads none, and an entry takes no more memory than its id, its box and one byte.
+//! So a search that needs no layers reads none, and an entry takes no more memory than its id, its box and one byte.
 
 ghost use Rattle.std.specs.Prelude.{◌≡◌, ◌==◌, ◌-◌, ◌<◌, ◌++◌, ◌∷◌, [], OnErr, OnOk, Some, length, map};
 ghost use Rattle.std.specs.Prelude.{List, slice_get, slice_index, take};
@@ -11,7 +11,7 @@ use rt_geo::{Bounds, Entry};
 use std::alloc::{AllocError, Global};
 use std::marker::Model;
 
-/// An entry without its layer: what stands side by side under a node of level 1.
+/// An entry without its layer: the element type of the array that a search reads under a node of level 1.
 #[derive(Clone, Copy, Debug, PartialEq, Eq)]
 pub struct LeafEntry {
     /// The entry's id.
@@ -20,7 +20,7 @@ pub struct LeafEntry {
     pub bounds: Bounds,
 }
 
-/// Entries in order: those that a table is made of, and those of a tree.
+/// Entries in order: those for a table, and those of a tree.
 #[derive(Drop)]
 pub struct Entries {
     entries: Vec<LeafEntry>,
@@ -36,7 +36,7 @@ impl Model for Entries {
 }
 
 impl Entries {
-    /// No entries. It takes no memory.
+    /// No entries. It allocates nothing.
     pub fn empty(alloc: Global) -> Entries
         ensures { result ≡ [] }
     {
@@ -46,7 +46,7 @@ impl Entries {
         }
     }
 
-    /// Reserves capacity for so many more.
+    /// Reserves capacity for `more` entries.
     pub(crate) fn reserve(&mut self, more: usize) -> Result<(), AllocError>
         ensures { self.new ≡ self.old }
     {
@@ -54,7 +54,7 @@ impl Entries {
         self.layers.reserve(more)
     }
 
-    /// How many there are.
+    /// The number of entries.
     pub fn len(&self) -> usize
         ensures { result ≡ length self.now }
     {
@@ -68,7 +68,7 @@ impl Entries {
         self.len() == 0
     }
 
-    /// Adds an entry last. An error means that no memory is left; then the entries are as they were.
+    /// Adds an entry at the end. The error is out of memory; the entries are then unchanged.
     pub fn push(&mut self, entry: Entry) -> Result<(), AllocError>
         ensures ok { OnOk result (self.new ≡ self.old ++ entry ∷ []) }
         ensures err { OnErr result (self.new ≡ self.old) }
@@ -82,7 +82,7 @@ impl Entries {
         Ok(())
     }
 
-    /// Takes the last entry away, if there is one.
+    /// Removes the last entry, if there is one.
     pub(crate) fn pop(&mut self)
         ensures { self.new ≡ take (length self.old - 1) self.old }
     {
@@ -91,7 +91,7 @@ impl Entries {
         self.layers.truncate(len);
     }
 
-    /// The entry at a place, counted from 0.
+    /// The entry at an index.
     pub(crate) fn get(&self, place: usize) -> Entry
         requires { place < length self.now }
         ensures { slice_get self.now place ≡ Some result }
@@ -104,7 +104,7 @@ impl Entries {
         }
     }
 
-    /// The layer of the entry at a place, or 0. Where it isn't looked at, nothing is read.
+    /// The layer of the entry at an index, or 0. If the result isn't used, the array isn't read.
     pub(crate) fn layer(&self, place: usize) -> u8
         ensures { result ≡ slice_index (map (λ entry. entry.layer) self.now) place }
     {

@@ -1,4 +1,4 @@
-//! Set of a table's ids: a sorted array of those that are loaded, a B-tree of those pushed later. A lookup takes O(log n)
+//! Set of a table's ids: a sorted array of those that are loaded, a B-tree of those pushed later. A lookup takes O(log n),
 //! whatever the ids are.
 
 ghost use Rattle.std.specs.{List.{list_any}, List.Sorted.{IsStrictlySortedBy}, Ordering.{int_cmp, int_eq}};
@@ -16,15 +16,15 @@ use std::collections::BTreeSet;
 /// The ids of a table's entries.
 #[derive(Drop)]
 pub(crate) struct Ids {
-    // Those of the entries that the table was made of, in order.
+    // the ids of the entries from which the table was made, in order
     loaded: Vec<i64>,
-    // Those of the entries pushed since.
+    // the ids of the entries pushed since
     pushed: BTreeSet<i64>,
     ghost in_order: { IsSorted int_cmp loaded.items },
 }
 
 impl Ids {
-    /// No ids. It takes no memory.
+    /// No ids. It allocates nothing.
     pub(crate) fn none(alloc: Global) -> Ids
         ensures { (id : ℤ) → keeps result.loaded.items result.pushed id ≡ false }
     {
@@ -34,7 +34,7 @@ impl Ids {
         }
     }
 
-    /// The ids of entries, where no two have one.
+    /// The ids of entries, or the first entry whose id comes a second time.
     pub(crate) fn of(alloc: Global, entries: &Entries) -> Result<Ids, EntriesFault>
         requires { length entries.now ≤ most_entries }
         ensures ids { IfOk result (λ ids. AreIdsOf ids.loaded.items ids.pushed entries.now) }
@@ -57,7 +57,7 @@ impl Ids {
         })
     }
 
-    // The same, one id after the other, so that the first that comes again is found.
+    // The same, one id after the other, so that the first repeated id is found.
     fn one_by_one(alloc: Global, entries: &Entries) -> Result<Ids, EntriesFault>
         requires { length entries.now ≤ most_entries }
         ensures ids { IfOk result (λ ids. AreIdsOf ids.loaded.items ids.pushed entries.now) }
@@ -80,14 +80,14 @@ impl Ids {
         Ok(ids)
     }
 
-    /// Whether an id is there.
+    /// Whether an id is in the set.
     pub(crate) fn has(&self, id: i64) -> bool
         ensures { result ≡ keeps self.now.loaded.items self.now.pushed id }
     {
         is_among(&self.loaded, id) || self.pushed.contains(&id)
     }
 
-    /// Adds an id. An error means that no memory is left; then the ids are as they were.
+    /// Adds an id. The error is out of memory; the set is then unchanged.
     pub(crate) fn add(&mut self, id: i64) -> Result<(), AllocError>
         ensures added { OnOk result ((other : ℤ) → keeps self.new.loaded.items self.new.pushed other
             ≡ (keeps self.old.loaded.items self.old.pushed other || int_eq other id)) }
@@ -109,7 +109,7 @@ fn ids_of(alloc: Global, entries: &Entries) -> Result<Vec<i64>, AllocError>
     let mut ids = Vec::with_capacity(alloc, entries.len())?;
     for place in 0..entries.len() {
         let entry = entries.get(place);
-        // (read, so that its sides are known to be those of a box)
+        // (the call makes it known to the proof that the sides are those of a box)
         let _least = entry.bounds.min_x();
         ids.push(entry.id)?;
     }
@@ -123,7 +123,7 @@ fn rises(ids: &[i64]) -> bool
     ids.is_sorted_by(|one, next| one < next)
 }
 
-// Whether an id is among some in order.
+// Whether an id is in a sorted slice.
 fn is_among(ids: &[i64], id: i64) -> bool
     requires { IsSorted int_cmp ids.now }
     ensures { result ≡ list_any (int_eq id) ids.now }

@@ -6,11 +6,11 @@ ghost use Rattle.rt_tree.specs.{Entries.{most_entries}, Levels.{level_sizes}};
 
 use std::marker::Model;
 
-// The most levels: so many has a tree over the most entries with two children for each node.
+// The most levels: those of a tree with the most entries and two children for each node.
 const MOST_LEVELS: usize = 25;
 
-/// How many entries, and then nodes, there are on each level of a tree: the entries are level 0, the root is on the
-/// last one. Without entries there is level 0 alone, and no root.
+/// The number of entries, and then of nodes, on each level of a tree: the entries are level 0, the root is the last level.
+/// Without entries there is level 0 alone, and no root.
 #[derive(Debug, Drop)]
 pub struct Levels {
     sizes: [u32; MOST_LEVELS],
@@ -26,15 +26,15 @@ impl Model for Levels {
 }
 
 impl Levels {
-    /// The levels of a tree over so many entries, with at most `fanout` children for each node.
+    /// The levels of a tree of `len` entries, with at most `fanout` children for each node.
     pub fn new(len: u32, fanout: u8) -> Levels
         requires entries { len ≤ most_entries }
         requires several { 2 ≤ fanout }
         ensures sizes { result ≡ level_sizes len fanout }
         ensures few { length result ≤ 25 }
 
-        // Level by level: each size is the one below it divided by the fanout, rounded up. Above the entries, where there
-        // are any, the last is 1, and no other.
+        // Level by level: each size is the one below it divided by the fanout, rounded up. If there are entries, the last
+        // size above them is 1, and no other is.
         ensures entries { slice_get result 0 ≡ Some len }
         ensures nodes { (0 < len) ↔ (1 < length result) }
         ensures above { (level below above : ℕ) → slice_get result level ≡ Some below
@@ -60,7 +60,7 @@ impl Levels {
         }
     }
 
-    // One more level.
+    // Adds a level.
     fn push(&mut self, size: u32)
         requires { length self.old < 25 }
         ensures { self.new ≡ self.old ++ size ∷ [] }
@@ -69,7 +69,7 @@ impl Levels {
         self.count += 1;
     }
 
-    /// How many levels there are, that of the entries included.
+    /// The number of levels, that of the entries included.
     pub fn count(&self) -> u8
         ensures value { result ≡ length self.now }
         ensures few { result ≤ 25 }
@@ -77,7 +77,7 @@ impl Levels {
         self.count as u8
     }
 
-    /// How many entries or nodes there are on a level, counted from 0 for the entries.
+    /// The number of entries or nodes on a level; level 0 is that of the entries.
     pub fn size(&self, level: u8) -> u32
         requires { level < length self.now }
         ensures { slice_get self.now level ≡ Some result }

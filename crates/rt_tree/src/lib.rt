@@ -1,14 +1,14 @@
-//! The entries of a table, and the tree that is packed over them.
+//! A table's entries, and the packed R-tree over them.
 //!
-//! - A [`Table`] is seen as the list of its entries, in the order pushed. No two have one id. [`Table::of_entries`]
-//!   makes one of many [`Entries`] at once, and quicker than [`Table::push`] one by one.
-//! - A [`Tree`] is packed over a table by [`Tree::pack`]. It is seen as its fanout and two flat lists: its entries in
-//!   the order of their places, and its [`Node`]s in the order of their numbers, of which a [`NodeNo`] is one.
+//! - Contracts see a [`Table`] as the list of its entries, in the order pushed. No two have the same id. [`Table::of_entries`]
+//!   makes one of many [`Entries`] at once, and faster than [`Table::push`] one by one.
+//! - A [`Tree`] is packed over a table by [`Tree::pack`]. Contracts see its fanout and two flat lists: its entries by index,
+//!   and its [`Node`]s by number; a [`NodeNo`] is such a number.
 //!
-//! The definitions that the contracts cite stand in `specs/`: `Entries`, `Repeats` (why entries make no table),
+//! The definitions that the contracts cite are in `specs/`: `Entries`, `Repeats` (why entries make no table),
 //! `Leaves` and `PlainNodes` (entries and nodes without their layers), `Levels`, `Packing` (which tree is packed),
-//! `Packed` (what it holds, and what a search may rest on), and `Sorting`, for the crates above too. Their worked rows
-//! stand in `proofs/Rows.antt`. What `Indexes` and `SortKeys` define is for this crate's code alone.
+//! `Packed` (what it holds, and what a search may rely on), and `Sorting`, for the crates above too. Their worked rows
+//! are in `proofs/Rows.antt`. What `Indexes` and `SortKeys` define is for the code of this crate alone.
 #![tactic(auto)]
 
 mod entries;

@@ -1,6 +1,6 @@
-//! The nodes of a tree in order, their layers in a list of their own.
+//! The nodes of a tree by number, with the layers in an array of their own.
 //!
-//! So a search that looks at no layers reads none, and more of the nodes that it asks about are in the cache.
+//! So a search that needs no layers reads none, and more of the nodes that it checks fit in the cache.
 
 ghost use Rattle.std.specs.Prelude.{◌≡◌, ◌<◌, ◌++◌, ◌∷◌, [], IfOk, List, OnOk, Some, length, map, slice_get};
 ghost use Rattle.rt_tree.specs.{PlainNodes.{nodes_of, without_layers}, declared.tree.Node.{Node}};
@@ -10,18 +10,18 @@ use rt_geo::{Bounds, Layers};
 use std::alloc::{AllocError, Global};
 use std::marker::Model;
 
-/// A node without its layers: what stands side by side under a node above level 1. Its fields are those of a [`Node`].
+/// A node without its layers: the element type of the array that a search reads. Its fields are those of a [`Node`].
 #[derive(Clone, Copy, Debug, PartialEq, Eq)]
 pub struct PlainNode {
-    /// The least box in which its children lie.
+    /// The smallest box that contains its children.
     pub bounds: Bounds,
-    /// The place of its first child where the level is 1, and else the number of its first child.
+    /// The index of its first child, an entry, if the level is 1; otherwise the number of its first child.
     pub first: u32,
-    /// How many entries are under it.
+    /// The number of entries under it.
     pub size: u32,
-    /// How many children it has.
+    /// The number of its children.
     pub count: u8,
-    /// 1 where its children are entries.
+    /// 1 if its children are entries.
     pub level: u8,
 }
 
@@ -41,7 +41,7 @@ impl Model for Nodes {
 }
 
 impl Nodes {
-    /// No nodes, and capacity for so many.
+    /// No nodes, with capacity for `capacity`.
     pub fn with_capacity(alloc: Global, capacity: usize) -> Result<Nodes, AllocError>
         ensures { IfOk result (λ nodes. nodes ≡ []) }
     {
@@ -51,7 +51,7 @@ impl Nodes {
         })
     }
 
-    /// Adds a node last.
+    /// Adds a node at the end.
     pub fn push(&mut self, node: Node) -> Result<(), AllocError>
         ensures { OnOk result (self.new ≡ self.old ++ node ∷ []) }
     {
@@ -67,14 +67,14 @@ impl Nodes {
         Ok(())
     }
 
-    /// How many there are.
+    /// The number of nodes.
     pub fn len(&self) -> usize
         ensures { result ≡ length self.now }
     {
         self.nodes.len()
     }
 
-    /// The node with a number. Where its layers aren't looked at, they are not read.
+    /// The node with a number. If its layers aren't used, they aren't read.
     #[inline(always)]
     pub fn get(&self, number: usize) -> Node
         requires { number < length self.now }

@@ -1,8 +1,8 @@
 //! Sort-tile-recursive packing: items in tiles, and nodes over them.
 //!
-//! Each item has a sort key: a number of the middle of its box, and below it its place. Keys are sorted by x, each
-//! slice of them is sorted by y, and the items are moved once, at the end. Of nodes with one middle that at the lesser
-//! place goes first, and of entries that with the lesser id.
+//! Each item has a sort key: the middle of its box as a number, and below it its index. Keys are sorted by x, each slice of
+//! them is sorted by y, and the items are moved once, at the end. Nodes with equal middles are ordered by index, entries
+//! with equal middles by id.
 
 ghost use Rattle.std.specs.{Int.{div_ceil}, List.{enumerate_from, flat_map}, Ordering.{int_cmp, nat_cmp, on}};
 ghost use Rattle.std.specs.Prelude.{◌≡◌, ℕ, ◌<◌, ◌≤◌, ◌*◌, ◌+◌, ◌^◌, ◌+ℤ◌, ◌++◌, ◌∷◌, [], ⊤, IfOk, List, OnOk, Some};
@@ -21,45 +21,45 @@ use crate::tree::Node;
 use rt_geo::{Bounds, Entry, Layers, hull};
 use std::alloc::{AllocError, Global};
 
-/// A sort key can hold so many places, one for each entry that a table may have.
+/// The number of indexes that a sort key can hold: one for each entry that a table may have.
 pub(crate) const PLACES: u64 = Table::MOST_ENTRIES as u64;
 
-// Added to the sum of two coordinates, so that it is no longer negative.
+// Added to the sum of two coordinates, so that the sum isn't negative.
 const SUM_OFFSET: i64 = 4_294_967_296;
 
 /// What is packed, in order: entries, and then the nodes of each level.
 pub(crate) trait Items {
-    /// One of them.
+    /// The type of an item.
     type Item: Copy + Drop;
 
-    /// They, in order.
+    /// The items, in order.
     ghost list: { Self → List Self.Item };
 
-    /// Its box and its layers.
+    /// The box and the layers of an item.
     ghost extent: { Self.Item → Extent };
 
-    /// How many entries it stands for.
+    /// The number of entries that an item stands for.
     ghost size: { Self.Item → ℕ };
 
-    /// That its layers are some that there are.
+    /// What has to hold of the layers of an item: an entry's is at most 63.
     ghost has_layers: { Self.Item → Type 0 };
 
-    /// The order in which those go whose boxes have one middle.
+    /// The items in the order that decides between equal middles.
     ghost in_order: { List Self.Item → List Self.Item };
 
     /// The order of the sort keys of such items.
     ghost key_order: { List Self.Item → ℕ → ℕ → Ordering };
 
-    /// How many there are.
+    /// The number of items.
     fn count(&self) -> usize
         ensures { result ≡ length (list self.now) };
 
-    /// The item at a place.
+    /// The item at an index.
     fn item(&self, place: usize) -> Self::Item
         requires { place < length (list self.now) }
         ensures { slice_get (list self.now) place ≡ Some result };
 
-    /// Adds an item last.
+    /// Adds an item at the end.
     fn push(&mut self, item: Self::Item) -> Result<(), AllocError>
         ensures { OnOk result (list self.new ≡ list self.old ++ item ∷ []) };
 
@@ -67,7 +67,7 @@ pub(crate) trait Items {
     fn bounds(item: Self::Item) -> Bounds
         ensures { result ≡ box_of extent item };
 
-    /// A node with an item behind its children.
+    /// A node to which an item was added as its last child.
     fn with_child(node: Node, item: Self::Item) -> Node
         requires layers { has_layers item }
         requires size { node.size + size item < 2 ^ 32 }
@@ -171,7 +171,7 @@ impl Items for Nodes {
     }
 }
 
-// The key of an item between two coordinates: keys sort by their sum, which is made no less than 0, and then by place.
+// The key of an item between two coordinates: first their sum, made non-negative, and below it the index.
 fn sort_key(least: i32, greatest: i32, place: usize) -> u64
     requires { place < PLACES }
     ensures { result ≡ sort_key (rank (least +ℤ greatest)) place }
@@ -179,14 +179,14 @@ fn sort_key(least: i32, greatest: i32, place: usize) -> u64
     (least as i64 + greatest as i64 + SUM_OFFSET) as u64 * PLACES + place as u64
 }
 
-/// The place in a key.
+/// The index in a key.
 pub(crate) fn place_of(key: u64) -> usize
     ensures { result ≡ place_of key }
 {
     (key % PLACES) as usize
 }
 
-/// Puts items behind those that are packed, in the order of their tiles, and makes the nodes over the tiles.
+/// Appends items to those that are packed, in the order of their tiles, and makes the nodes over the tiles.
 pub(crate) fn pack_level<T: Items>(
     alloc: Global,
     items: &T,
@@ -214,7 +214,7 @@ pub(crate) fn pack_level<T: Items>(
     Ok(nodes)
 }
 
-// Puts the keys by x of items in the order of their tiles.
+// Sorts the keys by x of items into the order of their tiles.
 fn arrange<T: Items>(keys: &mut [u64], items: &T, fanout: u8)
     requires packable { ArePackable (box_of T.extent) T.has_layers T.size
         (T.key_order (T.list items.now)) (T.in_order (T.list items.now)) (T.list items.now) }
@@ -229,7 +229,7 @@ fn arrange<T: Items>(keys: &mut [u64], items: &T, fanout: u8)
     sort_slices(keys, items, slice_size(items.count(), fanout));
 }
 
-// How many items a slice has: as many tiles as there are slices. Without items, any number but 0.
+// The number of items in a slice. A slice has as many tiles as there are slices. Without items it is any number but 0.
 fn slice_size(items: usize, fanout: u8) -> usize
     requires { 2 ≤ fanout }
     ensures value { 0 < items → result ≡ ceil_sqrt (div_ceil items fanout) * fanout }
@@ -239,7 +239,7 @@ fn slice_size(items: usize, fanout: u8) -> usize
     (tiles.saturating_sub(1).isqrt() + 1) * fanout as usize
 }
 
-// The keys by x of the items, in their order.
+// The keys by x of the items, in the order of the items.
 fn keys_of<T: Items>(alloc: Global, items: &T) -> Result<Vec<u64>, AllocError>
     requires { length (T.list items.now) ≤ most_entries }
     ensures { IfOk result (λ v. v.items
@@ -284,7 +284,7 @@ fn sort_by_y<T: Items>(keys: &mut [u64], items: &T)
     items.sort_keys(keys);
 }
 
-// Puts the items that the keys of a tile tell behind those that are packed. The node over them.
+// Appends the items of a tile, by their keys, to those that are packed. Returns the node over them.
 fn pack_tile<T: Items>(
     items: &T,
     tile: &[u64],
@@ -302,7 +302,7 @@ fn pack_tile<T: Items>(
     ensures node { IfOk result (λ node. node ≡ node_over T.extent T.size level
         (length (T.list packed.old)) (items_at (T.list items.now) tile.now)) }
 {
-    // (it begins with the first child's box, as there is none around nothing; the hull with that child leaves it so)
+    // (it begins with the first child's box, as there is no empty box; the hull with that child is the same box)
     let mut node = Node {
         layers: Layers::new(0),
         bounds: T::bounds(items.item(place_of(tile[0]))),
@@ -318,7 +318,7 @@ fn pack_tile<T: Items>(
     Ok(node)
 }
 
-// Puts the item that a key tells behind those that are packed.
+// Appends the item of a key to those that are packed.
 fn pack_item<T: Items>(items: &T, key: u64, packed: &mut T) -> Result<T::Item, AllocError>
     requires { place_of key < length (T.list items.now) }
     ensures item { IfOk result (λ item. slice_get (T.list items.now) (place_of key) ≡ Some item) }

@@ -1,4 +1,4 @@
-//! Entries with distinct ids.
+//! Tables: lists of entries with distinct ids.
 
 ghost use Rattle.std.specs.Prelude.{◌≡◌, ◌==◌, ◌<◌, ◌≤◌, ◌++◌, ◌∷◌, ◌↔◌, [], length, slice_get, IsTrue, false, Ok, Err};
 ghost use Rattle.std.specs.Prelude.{Some, None, IfOk, IfErr, OnOk, OnErr, All};
@@ -14,18 +14,18 @@ use std::marker::Model;
 /// Why an entry wasn't added.
 #[derive(Clone, Copy, Debug, PartialEq, Eq)]
 pub enum PushFault {
-    /// An entry with that id is there.
+    /// The table has an entry with that id.
     Repeated,
-    /// There was no memory for it.
+    /// Out of memory.
     Memory,
 }
 
 /// Why entries make no table.
 #[derive(Clone, Copy, Debug, PartialEq, Eq)]
 pub enum EntriesFault {
-    /// The entry at this place, counted from 0, is the first whose id an earlier one has.
+    /// The entry at this index is the first whose id an earlier one has.
     Repeated { place: u32 },
-    /// There was no memory for the table.
+    /// Out of memory.
     Memory,
 }
 
@@ -33,7 +33,7 @@ pub enum EntriesFault {
 #[derive(Drop)]
 pub struct Table {
     entries: Entries,
-    // The ids of the entries.
+    // the ids of the entries
     ids: Ids,
 }
 
@@ -53,7 +53,7 @@ impl Table {
     /// The most entries of a table.
     pub const MOST_ENTRIES: u32 = 16_777_216;
 
-    /// No entries. It takes no memory.
+    /// No entries. It allocates nothing.
     pub fn empty(alloc: Global) -> Table
         ensures { result ≡ [] }
     {
@@ -63,8 +63,8 @@ impl Table {
         }
     }
 
-    /// The table of these entries, whose layers are at most 63, in their order, in O(n log n) whatever they are.
-    /// `Repeated` names the first entry whose id an earlier one has; `Memory` comes where there was none for the table.
+    /// The table of these entries, in their order; each layer is at most 63. It takes O(n log n) for any entries.
+    /// `Repeated` has the first entry whose id an earlier one has; `Memory` is out of memory.
     pub fn of_entries(alloc: Global, entries: Entries) -> Result<Table, EntriesFault>
         requires most { length entries ≤ most_entries }
         requires layers { All HasLayer entries }
@@ -76,7 +76,7 @@ impl Table {
         Ok(Table { entries, ids })
     }
 
-    /// How many entries there are.
+    /// The number of entries.
     pub fn len(&self) -> u32
         ensures value { result ≡ length self.now }
         ensures table { IsTable self.now }
@@ -91,7 +91,7 @@ impl Table {
         self.entries.is_empty()
     }
 
-    /// The entry at a place, counted from 0 in the order pushed.
+    /// The entry at an index, in the order pushed.
     pub fn get(&self, place: u32) -> Entry
         requires { place < length self.now }
         ensures value { slice_get self.now place ≡ Some result }
@@ -109,7 +109,7 @@ impl Table {
         &self.entries
     }
 
-    // The entries alone.
+    // The entries; the set of their ids is dropped.
     pub(crate) fn into_entries(self) -> Entries
         ensures value { result ≡ self }
         ensures table { IsTable self }
@@ -119,8 +119,8 @@ impl Table {
         entries
     }
 
-    /// Adds an entry last, whose layer is at most 63. `Repeated` exactly where its id is there, and then no memory is
-    /// taken; `Memory` where there was none for it. After either the table is as it was.
+    /// Adds an entry at the end; its layer is at most 63. `Repeated` if and only if the table has its id, and then nothing
+    /// is allocated; `Memory` is out of memory. After either the table is unchanged.
     pub fn push(&mut self, entry: Entry) -> Result<(), PushFault>
         requires most { length self.old < most_entries }
         requires layer { HasLayer entry }
@@ -129,7 +129,7 @@ impl Table {
         ensures repeated { (result ≡ Err PushFault.Repeated) ↔ IsTrue (has_id self.old entry.id) }
         ensures err { OnErr result (self.new ≡ self.old) }
     {
-        // (read, so that its sides are known to be those of a box)
+        // (the call makes it known to the proof that the sides are those of a box)
         let _least = entry.bounds.min_x();
         if self.ids.has(entry.id) {
             return Err(PushFault::Repeated);

@@ -1,4 +1,4 @@
-//! A packed tree of boxes.
+//! Packed R-tree of boxes.
 
 ghost use Rattle.std.specs.{Int.{div_ceil}, Prelude.{◌≡◌, ◌==◌, ◌+◌, ◌-◌, ◌*◌, ◌<◌, ◌≤◌, ◌↔◌, IfOk, IfSome, IsSome}};
 ghost use Rattle.std.specs.Prelude.{All, Some, length, map, slice_get, ℕ, sum_by, IsPermutation};
@@ -16,40 +16,39 @@ use rt_geo::{Bounds, Entry, Layers};
 use std::alloc::{AllocError, Global};
 use std::marker::Model;
 
-/// A node: what is known of the entries under it, and where its children are.
+/// A node: bounds, layers and number of the entries under it, and where its children are.
 #[derive(Clone, Copy, Debug, PartialEq, Eq)]
 pub struct Node {
-    /// The layers of its children: of all the entries under it.
+    /// The layers of all entries under it.
     pub layers: Layers,
-    /// The least box in which its children lie.
+    /// The smallest box that contains its children.
     pub bounds: Bounds,
-    /// The place of its first child, which is an entry where the level is 1, and else the number of its first child, a
-    /// node. The others follow it.
+    /// The index of its first child, an entry, if the level is 1; otherwise the number of its first child, a node. The
+    /// others follow it.
     pub first: u32,
-    /// How many entries are under it.
+    /// The number of entries under it.
     pub size: u32,
-    /// How many children it has, at least one.
+    /// The number of its children, at least one.
     pub count: u8,
-    /// 1 where its children are entries; levels rise towards the root.
+    /// 1 if its children are entries; levels rise towards the root.
     pub level: u8,
 }
 
-/// The number of a node of a tree. Numbers begin at 0 on level 1 and go on level by level, so that the root has the
-/// greatest.
+/// The number of a node of a tree. Numbers begin at 0 on level 1 and go on level by level; the root has the highest.
 #[derive(Clone, Copy, Debug, PartialEq, Eq, PartialOrd, Ord)]
 pub struct NodeNo {
     number: u32,
 }
 
 impl NodeNo {
-    /// The number as that of a node. A tree has those below its [`Tree::node_len`].
+    /// The node number with this value. A tree has the numbers below its [`Tree::node_len`].
     pub fn new(number: u32) -> NodeNo
         ensures { result.number ≡ number }
     {
         NodeNo { number }
     }
 
-    /// The number.
+    /// The value.
     pub fn number(self) -> u32
         ensures { result ≡ self.number }
     {
@@ -57,11 +56,11 @@ impl NodeNo {
     }
 }
 
-/// A packed tree over the entries of a table.
+/// A packed R-tree over the entries of a table.
 ///
-/// It is packed sort-tile-recursively (Leutenegger, Lopez and Edgington, 1997): the entries are sorted by the middles
-/// of their boxes on the x axis and cut into slices, each slice is sorted by y and cut into nodes, and so are these
-/// nodes, until a level has one.
+/// It is packed sort-tile-recursively (Leutenegger, Lopez and Edgington, 1997): the entries are sorted by the middles of
+/// their boxes on the x axis and cut into slices; each slice is sorted by y and cut into nodes; the nodes are packed in the
+/// same way, until a level has one.
 #[derive(Drop)]
 pub struct Tree {
     fanout: u8,
@@ -85,8 +84,8 @@ impl Model for Tree {
 }
 
 impl Tree {
-    /// Packs the entries of a table, with 2 to 64 children for each node. An error means that no memory is left; then
-    /// the table is gone.
+    /// Packs the entries of a table, with 2 to 64 children for each node. The error is out of memory; the table is then
+    /// dropped.
     pub fn pack(alloc: Global, table: Table, fanout: u8) -> Result<Tree, AllocError>
         requires several { 2 ≤ fanout }
         requires most { fanout ≤ 64 }
@@ -108,7 +107,7 @@ impl Tree {
         })
     }
 
-    /// How many entries it has.
+    /// The number of entries.
     pub fn len(&self) -> u32
         ensures value { result ≡ length self.now.entries }
         ensures sound { IsSound self.now }
@@ -125,7 +124,7 @@ impl Tree {
         self.leaves.len() == 0
     }
 
-    /// The level of the root; 0 where there is none.
+    /// The level of the root; 0 if there is none.
     pub fn top(&self) -> u8
         ensures root { result ≡ (root_of self.now).level }
         ensures levels { result + 1
@@ -135,14 +134,14 @@ impl Tree {
         self.levels.count() - 1
     }
 
-    /// How many entries (level 0) or nodes there are on a level, which is at most the top one.
+    /// The number of entries (level 0) or nodes on a level, which is at most the top level.
     pub fn level_len(&self, level: u8) -> u32
         requires { level < length (level_sizes (length self.now.entries) self.now.fanout) }
         ensures value { slice_get (level_sizes (length self.now.entries) self.now.fanout) level
             ≡ Some result }
 
         // Level by level: each size is the one below it divided by the fanout, rounded up. Above the entries the root's
-        // is 1, and no other.
+        // size is 1, and no other is.
         ensures entries { level ≡ 0 → result ≡ length self.now.entries }
         ensures above { (below : ℕ) → 0 < level → slice_get
             (level_sizes (length self.now.entries) self.now.fanout) (level - 1) ≡ Some below
@@ -152,14 +151,14 @@ impl Tree {
         self.levels.size(level)
     }
 
-    /// How many nodes it has.
+    /// The number of nodes.
     pub fn node_len(&self) -> u32
         ensures { result ≡ length self.now.nodes }
     {
         self.nodes.len() as u32
     }
 
-    /// The root. `None` exactly where the tree is empty.
+    /// The root. `None` if and only if the tree is empty.
     pub fn root(&self) -> Option<NodeNo>
         ensures some { IsSome result ↔ (0 < length self.now.entries) }
         ensures number { IfSome result (λ no. no.number + 1 ≡ length self.now.nodes) }
@@ -173,7 +172,7 @@ impl Tree {
         }
     }
 
-    /// The node with a number. Where its layers aren't looked at, they are not read.
+    /// The node with a number. If its layers aren't used, they aren't read.
     #[inline(always)]
     pub fn node(&self, no: NodeNo) -> Node
         requires { no.number < length self.now.nodes }
@@ -183,7 +182,7 @@ impl Tree {
         self.nodes.get(no.number as usize)
     }
 
-    /// The number of a child, counted from 0, of a node above level 1.
+    /// The number of the child at an index of a node above level 1.
     pub fn child_node(&self, no: NodeNo, index: u8) -> NodeNo
         requires inside { no.number < length self.now.nodes }
         requires level { 2 ≤ (node_at self.now no.number).level }
@@ -196,7 +195,7 @@ impl Tree {
         }
     }
 
-    /// The entry at a place.
+    /// The entry at an index.
     pub fn entry(&self, place: u32) -> Entry
         requires { place < length self.now.entries }
         ensures { slice_get self.now.entries place ≡ Some result }
@@ -204,7 +203,7 @@ impl Tree {
         self.leaves.get(place as usize)
     }
 
-    /// The layer of the entry at a place, as a set. Where it isn't looked at, nothing is read.
+    /// The layer of the entry at an index, as a set. If the result isn't used, nothing is read.
     #[inline(always)]
     pub fn layers_at(&self, place: u32) -> Layers
         requires { place < length self.now.entries }
@@ -214,7 +213,7 @@ impl Tree {
         Layers::of(self.leaves.layer(place as usize))
     }
 
-    /// The entries under a node of level 1, in the order of their places, without their layers.
+    /// The entries under a node of level 1, by index, without their layers.
     #[inline(always)]
     pub fn child_entries(&self, node: Node) -> &[LeafEntry]
         requires { node.first + node.count ≤ length self.now.entries }
@@ -224,8 +223,7 @@ impl Tree {
         &self.leaves.leaves()[first..first + node.count as usize]
     }
 
-    /// The nodes right under a node above level 1, in the order of their numbers, without their layers, which
-    /// [`Tree::node`] tells.
+    /// The children of a node above level 1, by number, without their layers; [`Tree::node`] returns these.
     #[inline(always)]
     pub fn child_nodes(&self, node: Node) -> &[PlainNode]
         requires { node.first + node.count ≤ length self.now.nodes }

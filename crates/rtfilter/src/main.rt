@@ -1,7 +1,7 @@
-//! Finds boxes of a table: `rtfilter [-H|--header] [--fanout M] [--max-entries N] TABLE [QUERIES]`.
+//! The program: `rtfilter [-H|--header] [--fanout M] [--max-entries N] TABLE [QUERIES]`.
 //!
-//! The words are read here. `rt_filter::open_and_run` then has the files opened, and runs over them with standard output as
-//! the writer, and `rt_filter::Ending` has the exit status and the line on standard error.
+//! It reads the words of the command line. `rt_filter::open_and_run` then opens the files and runs, with standard output as
+//! the writer; `rt_filter::Ending` has the exit status and the line on standard error.
 #![tactic(auto)]
 
 use rt_filter::{ArgFault, Ending, Invocation, Name, open_and_run, settings_of};
@@ -19,12 +19,12 @@ fn main(rt: HostRuntime) -> ExitCode {
         }
         Err(fault) => Ending::without_run(fault, &mut io::writer(&rt)),
     };
-    // (nothing is left to report where standard error fails too)
+    // (if standard error fails too, there is nowhere to report that)
     let _ = ending.report(&mut rt.stderr());
     ExitCode::from(ending.status())
 }
 
-// What the words of the command line ask for.
+// Parses the words of the command line.
 fn invocation<R: Env + AllocGlobal>(rt: &R) -> Result<Invocation, ArgFault> {
     let mut words = Vec::new(rt.alloc());
     for word in env::args(rt).map_err(no_words)? {
@@ -35,7 +35,7 @@ fn invocation<R: Env + AllocGlobal>(rt: &R) -> Result<Invocation, ArgFault> {
     settings_of(rt.alloc(), words.as_slice())
 }
 
-// Why the words can't be had: no memory for them, or one that isn't UTF-8.
+// Why the words can't be read: out of memory, or one of them isn't UTF-8.
 fn no_words(error: io::Error) -> ArgFault {
     match error.kind() {
         ErrorKind::OutOfMemory => ArgFault::Memory,

@@ -13,7 +13,7 @@ use Rattle.rt_embed.specs.declared.question.Measure.{Measure}
 use Rattle.rt_embed.specs.declared.vertex.Vertex.{Vertex}
 use Rattle.rtfilter_c.specs.declared.plain_queries.FindProgress.{FindProgress}
 
--- why no more queries are answered, by the code
+-- why a find stopped, by the code
 abbrev pub stop_of : (code : ℕ) → Stop
 stop_of code = if code == 5 then Full else if code == 7 then BadQuery else Complete
 

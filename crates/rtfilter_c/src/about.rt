@@ -1,4 +1,4 @@
-//! What a session's table is.
+//! Export: the size and the extent of a session's table.
 
 ghost use Rattle.std.specs.Prelude.{◌≡◌, IfSome, IsSome, length};
 ghost use Rattle.rtfilter_c.specs.Abouts.{HasSizes, about_of};
@@ -8,23 +8,23 @@ use rt_handle::Handle;
 use rt_tree::Tree;
 use std::alloc::Global;
 
-/// What a table is: `rtfilter_info` of include/rtfilter.h without the sizes of the levels.
+/// `rtfilter_info` of include/rtfilter.h without the sizes of the levels.
 #[repr(C)]
 #[derive(Clone, Copy, Debug, PartialEq, Eq)]
 pub struct About {
-    /// How many boxes the table has.
+    /// The number of boxes.
     pub boxes: u32,
-    /// How many levels its tree has, that of the boxes included.
+    /// The number of levels of the tree, that of the boxes included.
     pub levels: u32,
-    /// The sides of the least box that holds all; 0 where there are none.
+    /// The sides of the smallest box that contains all; 0 if there are none.
     pub min_x: i32,
     pub max_x: i32,
     pub min_y: i32,
     pub max_y: i32,
 }
 
-/// Writes what a session's table is, and how many boxes or nodes each level has, from the boxes up: as many as fit, and 0
-/// above the last.
+/// Writes the size and the extent of a session's table, and the number of boxes or nodes of each level, from the boxes up:
+/// as many as fit, and 0 above the last.
 #[unsafe(no_mangle)]
 pub extern "C" fn rtfilter_engine_info(
     alloc: Global,
@@ -44,7 +44,7 @@ pub extern "C" fn rtfilter_engine_info(
     session.put(held);
 }
 
-// What a tree is.
+// The size and the extent of a tree.
 fn about_of(tree: &Tree) -> About
     ensures { result ≡ about_of tree.now }
 {

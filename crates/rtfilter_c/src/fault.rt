@@ -1,4 +1,4 @@
-//! The fault of a table in numbers.
+//! The fault of a table as numbers, and its message.
 
 ghost use Rattle.std.specs.Prelude.{◌≡◌, IfSome, None, Some};
 ghost use Rattle.rt_text.specs.declared.tables.TableFault.{TableFault};
@@ -7,7 +7,7 @@ ghost use Rattle.rtfilter_c.specs.Faults.{HasField, HasMessage, fault_with, numb
 use crate::texts::copy_front;
 use rt_text::{Axis, TableFault, fault_line};
 
-/// What is wrong with a table: `rtfilter_fault` of include/rtfilter.h.
+/// A fault of a table: `rtfilter_fault` of include/rtfilter.h.
 #[repr(C)]
 #[derive(Clone, Copy, Debug, PartialEq, Eq)]
 pub struct Fault {
@@ -15,7 +15,8 @@ pub struct Fault {
     pub kind: u32,
     /// The record, from 1.
     pub record: u32,
-    /// The field, from 1, of two that don't fit the first; for `FIELD_COUNT` how many were found; 0 where none is meant.
+    /// The field, from 1; if two fields contradict each other, the first of them. For `FIELD_COUNT` the number of fields. 0
+    /// if there is no field to name.
     pub field: u64,
 }
 
@@ -38,7 +39,7 @@ const MIN_X: u64 = 2;
 
 const MIN_Y: u64 = 4;
 
-/// The numbers of a fault. `None` where it isn't the table's own: a failed read, or no memory.
+/// The numbers of a fault. `None` if it isn't one of the table itself: a failed read, or out of memory.
 pub(crate) fn numbers_of(fault: TableFault) -> Option<Fault>
     ensures { result ≡ numbers_of fault }
 {
@@ -65,8 +66,8 @@ pub(crate) fn numbers_of(fault: TableFault) -> Option<Fault>
     })
 }
 
-/// Writes what the program prints of a table with a fault, without the line feed: the first of its bytes, as many as fit.
-/// Returns its length. Where the numbers are those of no fault, it is 0, and nothing is written.
+/// Writes the program's message for a table with this fault, without the line feed: the first bytes, as many as fit.
+/// Returns its length. If the numbers are those of no fault, it is 0, and nothing is written.
 #[unsafe(no_mangle)]
 pub extern "C" fn rtfilter_engine_fault_message(fault: &Fault, buffer: &mut [u8]) -> usize
     ensures message { (cause : TableFault) → HasField cause → numbers_of cause ≡ Some fault.now
@@ -91,7 +92,7 @@ fn write_message(cause: &TableFault, buffer: &mut [u8]) -> usize
     message.len()
 }
 
-// The fault that has these numbers.
+// The fault with these numbers.
 fn fault_of(numbers: Fault) -> Option<TableFault>
     ensures sound { IfSome result (λ cause. numbers_of cause ≡ Some numbers) }
     ensures whole { (cause : TableFault) → HasField cause → numbers_of cause ≡ Some numbers

@@ -1,4 +1,4 @@
-//! Why a query in numbers is invalid, as a number.
+//! Export: why a query in numbers is invalid, as a number.
 
 ghost use Rattle.std.specs.Prelude.{◌≡◌};
 ghost use Rattle.rtfilter_c.specs.Numbers.{cause_of, number_of};
@@ -23,7 +23,7 @@ const NO_LAYER: u32 = 7;
 
 const RESERVED: u32 = 8;
 
-/// The first cause for which a query is invalid: one of the numbers above, of which 0 says that it is valid.
+/// The first reason why a query is invalid: one of the numbers above, or 0 if it is valid.
 #[unsafe(no_mangle)]
 pub extern "C" fn rtfilter_engine_invalid(query: &PlainQuery, vertices: &[Vertex]) -> u32
     ensures { result ≡ cause_of vertices.now query.now }
@@ -34,7 +34,7 @@ pub extern "C" fn rtfilter_engine_invalid(query: &PlainQuery, vertices: &[Vertex
     }
 }
 
-// The number of a cause.
+// The number of a reason.
 fn number_of(cause: InvalidQuery) -> u32
     ensures { result ≡ number_of cause }
 {

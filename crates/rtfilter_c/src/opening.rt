@@ -1,4 +1,4 @@
-//! Opening, sharing and closing sessions.
+//! Exports that open, share and close sessions.
 
 ghost use Rattle.std.specs.Prelude.{◌≡◌, ◌≢◌, ◌<◌, ◌↔◌, ◌⊎◌, false, None, Some, IfSome, IsErrAnd, IsOkAnd, IsSome};
 ghost use Rattle.rt_command.specs.Choices.{AreAllowed, Choices};
@@ -12,8 +12,8 @@ use rt_filter::{RunFault, Settings};
 use rt_handle::Handle;
 use std::alloc::Global;
 
-/// Opens a session of a table in CSV: [`OK`], [`BAD_SETTING`], [`BAD_TABLE`] or [`NO_MEMORY`]. The fault is written where the
-/// table has one, and nowhere else.
+/// Opens a session of a table in CSV: [`OK`], [`BAD_SETTING`], [`BAD_TABLE`] or [`NO_MEMORY`]. The fault is written if and
+/// only if the table has one.
 #[unsafe(no_mangle)]
 pub extern "C" fn rtfilter_engine_open_bytes(
     alloc: Global,
@@ -45,7 +45,7 @@ pub extern "C" fn rtfilter_engine_open_bytes(
     open(alloc, out, Session::open(alloc, &settings, table), fault)
 }
 
-/// Opens a session of a table in columns, which are equally long; layers may be none. Codes and fault as of
+/// Opens a session of a table in columns of equal length; there may be no layers. Codes and fault as for
 /// [`rtfilter_engine_open_bytes`].
 #[unsafe(no_mangle)]
 pub extern "C" fn rtfilter_engine_open_arrays(
@@ -93,7 +93,7 @@ pub extern "C" fn rtfilter_engine_open_arrays(
     open_boxes(alloc, out, &columns, fanout, max_entries, fault)
 }
 
-/// Opens a session of a table of whole boxes. Codes and fault as of [`rtfilter_engine_open_bytes`].
+/// Opens a session of a table of whole boxes. Codes and fault as for [`rtfilter_engine_open_bytes`].
 #[unsafe(no_mangle)]
 pub extern "C" fn rtfilter_engine_open_boxes(
     alloc: Global,
@@ -123,7 +123,7 @@ pub extern "C" fn rtfilter_engine_open_boxes(
     open_boxes(alloc, out, &BoxList { boxes }, fanout, max_entries, fault)
 }
 
-/// Opens a session of a table in rows, with as many ids and layers, or none. Codes and fault as of
+/// Opens a session of a table in rows, with as many ids and layers, or none. Codes and fault as for
 /// [`rtfilter_engine_open_bytes`].
 #[unsafe(no_mangle)]
 pub extern "C" fn rtfilter_engine_open_rows(
@@ -158,7 +158,7 @@ pub extern "C" fn rtfilter_engine_open_rows(
     open_boxes(alloc, out, &rows, fanout, max_entries, fault)
 }
 
-// Opens a session of a table of boxes in arrays of whatever form.
+// Opens a session of a table of boxes in arrays of any layout.
 fn open_boxes<B: Boxes>(
     alloc: Global,
     out: &mut Handle,
@@ -196,7 +196,7 @@ fn open_boxes<B: Boxes>(
     )
 }
 
-/// Opens one more session of the same table: [`OK`] or [`NO_MEMORY`].
+/// Opens another session of the same table: [`OK`] or [`NO_MEMORY`].
 #[unsafe(no_mangle)]
 pub extern "C" fn rtfilter_engine_share(alloc: Global, of: &mut Handle, out: &mut Handle) -> u8
     requires open { IsSome of.old.held }
@@ -216,7 +216,7 @@ pub extern "C" fn rtfilter_engine_share(alloc: Global, of: &mut Handle, out: &mu
     }
 }
 
-/// Closes a session, and frees what it has. The table goes with its last session.
+/// Closes a session, and frees its memory. The last session of a table frees the table.
 #[unsafe(no_mangle)]
 pub extern "C" fn rtfilter_engine_close(alloc: Global, session: &mut Handle)
     requires open { IsSome session.old.held }

@@ -1,4 +1,4 @@
-//! Queries in numbers.
+//! Exports that answer queries in numbers.
 
 ghost use Rattle.std.specs.Prelude.{◌≡◌, ◌≢◌, ◌+◌, ◌<◌, ◌⊎◌, IfSome, IsSome, length, take};
 ghost use Rattle.rtfilter_c.specs.{Calls.{HoldsSearched, IsReady, Opens}, Numbers.{HasMeasured, finds, stop_of}};
@@ -9,7 +9,7 @@ use rt_embed::{Measure, PlainQuery, Score, Stop, Vertex};
 use rt_handle::Handle;
 use std::alloc::Global;
 
-/// How far a find came: how many queries are answered whole, and how many answers stand in the arrays.
+/// The result of a find: the number of queries whose answers are complete, and the number of answers in the arrays.
 #[repr(C)]
 #[derive(Clone, Copy, Debug, PartialEq, Eq)]
 pub struct FindProgress {
@@ -17,7 +17,7 @@ pub struct FindProgress {
     pub found: usize,
 }
 
-/// Finds the answers to queries, but for the first `skip` of them all: [`OK`], [`FULL`], [`BAD_QUERY`] or [`NO_MEMORY`].
+/// Finds the answers to queries, without the first `skip` of them all: [`OK`], [`FULL`], [`BAD_QUERY`] or [`NO_MEMORY`].
 #[unsafe(no_mangle)]
 pub extern "C" fn rtfilter_engine_find(
     alloc: Global,
@@ -58,7 +58,7 @@ pub extern "C" fn rtfilter_engine_find(
     }
 }
 
-// The code of why no more queries are answered.
+// The code for why a find ended.
 fn code_of(stop: Stop) -> u8
     ensures value { stop_of result ≡ stop }
     ensures codes { (result ≡ OK) ⊎ (result ≡ FULL) ⊎ (result ≡ BAD_QUERY) }
@@ -70,7 +70,7 @@ fn code_of(stop: Stop) -> u8
     }
 }
 
-/// How many boxes each query asks for, without its limit. All are counted, or those before the first faulty one:
+/// The number of boxes that each query selects, without its limit. All are counted, or those before the first invalid one:
 /// [`OK`], [`BAD_QUERY`] or [`NO_MEMORY`].
 #[unsafe(no_mangle)]
 pub extern "C" fn rtfilter_engine_count(
@@ -101,7 +101,7 @@ pub extern "C" fn rtfilter_engine_count(
     )
 }
 
-/// How many nodes a find of each query opens.
+/// The number of nodes that a find of each query opens.
 #[unsafe(no_mangle)]
 pub extern "C" fn rtfilter_engine_cost_of_find(
     alloc: Global,
@@ -131,7 +131,7 @@ pub extern "C" fn rtfilter_engine_cost_of_find(
     )
 }
 
-/// How many nodes a count of each query opens.
+/// The number of nodes that a count of each query opens.
 #[unsafe(no_mangle)]
 pub extern "C" fn rtfilter_engine_cost_of_count(
     alloc: Global,

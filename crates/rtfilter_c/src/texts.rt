@@ -1,4 +1,4 @@
-//! Query lines and their reply.
+//! Exports that answer query lines.
 
 ghost use Rattle.std.specs.Prelude.{◌≡◌, ◌≤◌, ◌⊎◌, IsSome, drop, length, min};
 ghost use Rattle.rt_embed.specs.Costs.{opened_by_text};
@@ -8,8 +8,8 @@ use crate::codes::{FAULTY_LINE, NO_MEMORY, OK};
 use rt_handle::Handle;
 use std::alloc::Global;
 
-/// Answers query lines: [`OK`], [`FAULTY_LINE`] or [`NO_MEMORY`]. The reply is kept, in the place of the last one. Its length is
-/// written, and the first of its bytes, as many as fit. After [`NO_MEMORY`] it is empty.
+/// Answers query lines: [`OK`], [`FAULTY_LINE`] or [`NO_MEMORY`]. The reply is kept, instead of the last one. Writes its
+/// length and its first bytes, as many as fit. After [`NO_MEMORY`] it is empty.
 #[unsafe(no_mangle)]
 pub extern "C" fn rtfilter_engine_ask(
     alloc: Global,
@@ -42,7 +42,7 @@ pub extern "C" fn rtfilter_engine_ask(
     code
 }
 
-/// Copies the bytes of the reply from a place on, as many as there are and fit, and returns their number.
+/// Copies the bytes of the reply from an index on, as many as there are and fit, and returns their number.
 #[unsafe(no_mangle)]
 pub extern "C" fn rtfilter_engine_reply(
     alloc: Global,
@@ -64,7 +64,7 @@ pub extern "C" fn rtfilter_engine_reply(
     many
 }
 
-/// Forgets the reply, and frees its memory.
+/// Clears the reply, and frees its memory.
 #[unsafe(no_mangle)]
 pub extern "C" fn rtfilter_engine_forget(alloc: Global, session: &mut Handle)
     requires open { IsSome session.old.held }
