@@ -16,13 +16,13 @@ enum {
     FEW = 256,            /* answers that a session has a buffer for at first */
     FIRST = 1 << 13,      /* and many queries */
     MANY = 1 << 20,       /* answers, and bytes of a reply, that it keeps a buffer for */
-    STEP = 64,            /* queries of one call of the library, at most */
+    STEP = 64,            /* queries of one call of the library, or pairs, between two looks at the clock, at most */
     SLICE_NS = 10000000,  /* after so many nanoseconds a signal is looked for */
     AHEAD = 12,           /* answers between the one that is filtered and the one whose box is fetched */
     MOST_VERTICES = 16,
 };
 
-static PyObject *table_error, *query_error; /* exceptions */
+static PyObject *table_error, *query_error, *layer_bits; /* exceptions, and the function that reads layers: from Python */
 
 /* ---- Tables and their sessions */
 
@@ -40,6 +40,15 @@ typedef struct {
     rtfilter_session first; /* no query uses it, so that it can be shared at any time */
     worker *idle;           /* a stack, guarded by the interpreter's lock, as `first` is */
 } Table;
+
+/* Raises an exception that was made, if it could be made. */
+static PyObject *raise(PyObject *class, PyObject *error)
+{
+    if (error)
+        PyErr_SetObject(class, error);
+    Py_XDECREF(error);
+    return NULL;
+}
 
 static PyObject *failed(int code)
 {
@@ -154,14 +163,23 @@ static void release(Py_buffer *views, int count)
 
 /* ---- Opening */
 
+/* A whole number, or what Python takes for an index. A new reference. */
+static PyObject *whole(PyObject *number, PyObject *of)
+{
+    PyObject *found = PyLong_Check(number) ? Py_NewRef(number) : PyNumber_Index(number);
+    if (!found && PyErr_ExceptionMatches(PyExc_TypeError)) {
+        if (of)
+            PyErr_Format(PyExc_TypeError, "%.200R isn't a whole number: %.200R", number, of);
+        else
+            PyErr_Format(PyExc_TypeError, "%.200R isn't a whole number", number);
+    }
+    return found;
+}
+
 static PyObject *raise_fault(const rtfilter_fault *fault)
 {
-    PyObject *error = PyObject_CallFunction(table_error, "IIK", (unsigned)fault->kind, (unsigned)fault->record,
-                                            (unsigned long long)fault->field);
-    if (error)
-        PyErr_SetObject(table_error, error);
-    Py_XDECREF(error);
-    return NULL;
+    return raise(table_error, PyObject_CallFunction(table_error, "IIK", (unsigned)fault->kind, (unsigned)fault->record,
+                                                    (unsigned long long)fault->field));
 }
 
 static PyObject *opened(Table *self, int code, const rtfilter_fault *fault)
@@ -175,6 +193,19 @@ static PyObject *opened(Table *self, int code, const rtfilter_fault *fault)
         return failed(code);
     PyErr_SetString(PyExc_ValueError, "fanout is 2 to 64, and max_entries 1 to 16777216");
     return NULL;
+}
+
+/* Reads a setting, for PyArg_ParseTuple. One beyond 64 bits becomes 0, which the library refuses. */
+static int read_setting(PyObject *number, void *setting)
+{
+    int overflow;
+    PyObject *found = whole(number, NULL);
+    if (!found)
+        return 0;
+    const long long value = PyLong_AsLongLongAndOverflow(found, &overflow);
+    *(long long *)setting = overflow ? 0 : value;
+    Py_DECREF(found);
+    return 1;
 }
 
 /* A setting that is out of the range of its member becomes 0, which the library refuses. */
@@ -192,7 +223,7 @@ static PyObject *open_file(PyTypeObject *type, PyObject *args)
     PyObject *name, *path, *table = NULL;
     int header;
     long long fanout, most;
-    if (!PyArg_ParseTuple(args, "OpLL", &name, &header, &fanout, &most) || !PyUnicode_FSConverter(name, &path))
+    if (!PyArg_ParseTuple(args, "OpO&O&", &name, &header, read_setting, &fanout, read_setting, &most) || !PyUnicode_FSConverter(name, &path))
         return NULL;
     const rtfilter_settings settings = settings_of(header, fanout, most);
     Table *self = (Table *)PyType_GenericAlloc(type, 0);
@@ -221,7 +252,8 @@ static PyObject *open_arrays(PyTypeObject *type, PyObject *args)
     static const Py_ssize_t sizes[COLUMNS] = {8, 4, 4, 4, 4, 1};
     PyObject *from[COLUMNS], *table = NULL;
     long long fanout, most;
-    if (!PyArg_ParseTuple(args, "(OOOOOO)LL", from, from + 1, from + 2, from + 3, from + 4, from + LAYERS, &fanout, &most))
+    if (!PyArg_ParseTuple(args, "(OOOOOO)O&O&", from, from + 1, from + 2, from + 3, from + 4, from + LAYERS, read_setting,
+                          &fanout, read_setting, &most))
         return NULL;
     const bool has_layers = from[LAYERS] != Py_None;
     const int columns = has_layers ? COLUMNS : LAYERS;
@@ -251,7 +283,7 @@ static PyObject *open_arrays(PyTypeObject *type, PyObject *args)
 typedef struct {
     rtfilter_query query;
     rtfilter_point vertices[MOST_VERTICES];
-    PyObject *region; /* borrowed; for errors */
+    PyObject *part; /* borrowed: the region or the order that an error names */
     bool has_scores;
 } request;
 
@@ -278,28 +310,10 @@ static struct kind {
 };
 
 /* Raises QueryError. A query that is one of many has a place; `at` is negative for one by itself. */
-static PyObject *raise_query(PyObject *region, Py_ssize_t at, const char *code, const char *text)
+static PyObject *raise_query(PyObject *part, Py_ssize_t at, const char *code, const char *text)
 {
     PyObject *place = at < 0 ? Py_NewRef(Py_None) : PyLong_FromSsize_t(at);
-    PyObject *error = place ? PyObject_CallFunction(query_error, "OOss", region ? region : Py_None, place, code, text) : NULL;
-    if (error)
-        PyErr_SetObject(query_error, error);
-    Py_XDECREF(error);
-    Py_XDECREF(place);
-    return NULL;
-}
-
-/* A whole number, or what Python takes for an index. A new reference. */
-static PyObject *whole(PyObject *number, PyObject *of)
-{
-    PyObject *found = PyLong_Check(number) ? Py_NewRef(number) : PyNumber_Index(number);
-    if (!found && PyErr_ExceptionMatches(PyExc_TypeError)) {
-        if (of)
-            PyErr_Format(PyExc_TypeError, "%R isn't a whole number: %R", number, of);
-        else
-            PyErr_Format(PyExc_TypeError, "%R isn't a whole number", number);
-    }
-    return found;
+    return place ? raise(query_error, PyObject_CallFunction(query_error, "ONss", part ? part : Py_None, place, code, text)) : NULL;
 }
 
 static bool put_number(const request *it, PyObject *number, PyObject *of, void *field, bool is_unsigned)
@@ -311,7 +325,7 @@ static bool put_number(const request *it, PyObject *number, PyObject *of, void *
     const long long value = PyLong_AsLongLongAndOverflow(found, &overflow);
     Py_DECREF(found);
     if (overflow || value < (is_unsigned ? 0 : INT32_MIN) || value > (is_unsigned ? (long long)UINT32_MAX : INT32_MAX)) {
-        raise_query(it->region, -1, "Q6", "out of range");
+        raise_query(it->part, -1, "Q6", "out of range");
         return false;
     }
     const uint32_t bits = (uint32_t)value;
@@ -324,7 +338,7 @@ static bool is_tuple(PyObject *it, PyObject *polygon)
 {
     if (PyTuple_Check(it))
         return true;
-    PyErr_Format(PyExc_TypeError, "vertices aren't a tuple of pairs (x, y): %R", polygon);
+    PyErr_Format(PyExc_TypeError, "vertices aren't a tuple of pairs (x, y): %.200R", polygon);
     return false;
 }
 
@@ -370,10 +384,10 @@ static bool put_region(request *it, PyObject *value)
 {
     const struct kind *kind = kind_of((PyObject *)Py_TYPE(value), 0, ORDERS);
     if (!kind) {
-        PyErr_Format(PyExc_TypeError, "%R is no region", value);
+        PyErr_Format(PyExc_TypeError, "%.200R is no region", value);
         return false;
     }
-    it->region = value;
+    it->part = value;
     it->query.region = kind->code;
     if (!put_numbers(it, kind, value))
         return false;
@@ -394,11 +408,21 @@ static bool put_order(request *it, PyObject *value)
 {
     const struct kind *kind = kind_of((PyObject *)Py_TYPE(value), ORDERS, KINDS);
     if (!kind) {
-        PyErr_Format(PyExc_TypeError, "%R is no order", value);
+        PyErr_Format(PyExc_TypeError, "%.200R is no order", value);
         return false;
     }
+    it->part = value;
     it->query.order = kind->code;
     return put_numbers(it, kind, value);
+}
+
+/* Raises that a number is out of range. Takes the words that an error names; null where Python doesn't print as many digits. */
+static void refuse_words(PyObject *words)
+{
+    if (!words)
+        PyErr_Clear();
+    raise_query(words, -1, "Q6", "out of range");
+    Py_XDECREF(words);
 }
 
 static bool put_limit(request *it, PyObject *number)
@@ -410,55 +434,25 @@ static bool put_limit(request *it, PyObject *number)
     Py_DECREF(found);
     if (PyErr_Occurred() && PyErr_ExceptionMatches(PyExc_OverflowError)) {
         PyErr_Clear();
-        raise_query(it->region, -1, "Q6", "out of range");
+        refuse_words(PyUnicode_FromFormat("first %S", number));
     }
     return !PyErr_Occurred();
 }
 
-static bool put_layer(request *it, PyObject *number)
-{
-    int overflow;
-    if (PyBool_Check(number)) {
-        PyErr_Format(PyExc_TypeError, "a layer is a whole number, and not %R", number);
-        return false;
-    }
-    PyObject *found = whole(number, NULL);
-    const long layer = found ? PyLong_AsLongAndOverflow(found, &overflow) : 0;
-    if (!found)
-        return false;
-    Py_DECREF(found);
-    if (overflow || layer < 0 || layer > 63) {
-        PyErr_Format(PyExc_ValueError, "a layer is 0 to 63, and not %R", number);
-        return false;
-    }
-    it->query.layers |= UINT64_C(1) << layer;
-    return true;
-}
-
-/* One layer, or an iterable of layers. */
+/* Puts layers as bits: a number that is one is read here, all else in Python. */
 static bool put_layers(request *it, PyObject *on)
 {
-    it->query.layers = 0;
-    if (PyUnicode_Check(on) || PyBytes_Check(on)) {
-        PyErr_Format(PyExc_TypeError, "layers are whole numbers, and not %R", on);
-        return false;
+    int overflow;
+    const long layer = PyLong_CheckExact(on) ? PyLong_AsLongAndOverflow(on, &overflow) : -1;
+    if (layer >= 0 && layer < 64) {
+        it->query.layers = UINT64_C(1) << layer;
+        return true;
     }
-    PyObject *each = PyLong_Check(on) ? NULL : PyObject_GetIter(on), *layer;
-    if (!each && PyErr_Occurred() && !PyErr_ExceptionMatches(PyExc_TypeError))
-        return false;
-    if (!each) { /* no iterable */
-        PyErr_Clear();
-        return put_layer(it, on);
-    }
-    bool is_sound = true;
-    while (is_sound && (layer = PyIter_Next(each))) {
-        is_sound = put_layer(it, layer);
-        Py_DECREF(layer);
-    }
-    Py_DECREF(each);
-    if (!PyErr_Occurred() && !it->query.layers)
-        PyErr_SetString(PyExc_ValueError, "no layer is given; None stands for all layers");
-    return !PyErr_Occurred();
+    PyObject *bits = PyObject_CallFunctionObjArgs(layer_bits, on, NULL);
+    if (bits)
+        it->query.layers = PyLong_AsUnsignedLongLong(bits);
+    Py_XDECREF(bits);
+    return bits;
 }
 
 /* Puts the arguments after the region, as words of a query line come: the first fault is raised. */
@@ -495,7 +489,7 @@ static bool put_arguments(PyObject **given, const char *const *known, int most, 
 static bool put_all(request *it, PyObject *region, PyObject *order, PyObject *first, PyObject *on)
 {
     it->query = rtfilter_all();
-    it->region = NULL;
+    it->part = NULL;
     if (!region)
         PyErr_SetString(PyExc_TypeError, "no region");
     return region && put_region(it, region) && put_rest(it, order, first, on);
@@ -607,10 +601,7 @@ static PyObject *table_nearest(Table *self, PyObject *const *args, Py_ssize_t co
         return found(self, &it);
     if (PyErr_ExceptionMatches(query_error)) {
         PyErr_Clear();
-        PyObject *line = PyUnicode_FromFormat("nearest %S %S %S", given[0], given[1], given[2]);
-        if (line)
-            raise_query(line, -1, "Q6", "out of range");
-        Py_XDECREF(line);
+        refuse_words(PyUnicode_FromFormat("nearest %S %S %S", given[0], given[1], given[2]));
     }
     return NULL;
 }
@@ -808,6 +799,8 @@ static PyObject *find_each(Table *self, PyObject *args)
     if (!PyArg_ParseTuple(args, "OnnO!O!On|OO", from, &it.place, &it.total, &PyByteArray_Type, &places, &PyByteArray_Type, &ids, &scores,
                           &count, from + 1, from + 2))
         return NULL;
+    if (it.place < 0 || count < 0 || !(scores == Py_None || PyByteArray_Check(scores)))
+        return PyErr_Format(PyExc_TypeError, "a negative place or number, or scores that are no bytearray");
     const int needed = from[2] ? 3 : 1;
     int views = 0;
     while (views < needed && view_items(from[views], of + views, sizes[views], lens + views))
@@ -857,10 +850,13 @@ static PyObject *reply_of(worker *by, size_t len)
 {
     size_t copied;
     PyObject *reply = PyBytes_FromStringAndSize(NULL, (Py_ssize_t)len);
-    if (reply)
-        rtfilter_reply(&by->session, 0, PyBytes_AsString(reply), len, &copied);
+    char *into = reply ? PyBytes_AsString(reply) : NULL;
+    Py_BEGIN_ALLOW_THREADS
+    if (into)
+        rtfilter_reply(&by->session, 0, into, len, &copied);
     if (len > MANY)
         rtfilter_forget(&by->session);
+    Py_END_ALLOW_THREADS
     return reply;
 }
 
@@ -972,6 +968,16 @@ static bool holds(const Polygons *self, int64_t part, int64_t x, int64_t y)
     return is_odd;
 }
 
+/* Decides pairs from a place on until all are decided, or it is time to look for a signal: where the next one stands. */
+static Py_ssize_t hold_slice(const Polygons *self, const int64_t *parts, const int32_t *points, char *into, Py_ssize_t at, Py_ssize_t len)
+{
+    const int64_t begun = nanoseconds();
+    for (Py_ssize_t step = 1; at < len && nanoseconds() - begun < SLICE_NS; step = step < STEP ? 2 * step : STEP)
+        for (const Py_ssize_t end = len - at < step ? len : at + step; at < end; at++)
+            into[at] = holds(self, parts[at], points[2 * at], points[2 * at + 1]);
+    return at;
+}
+
 static bool is_part(const Polygons *self, int64_t part)
 {
     if (part >= 0 && part < self->lens[PARTS] - 1)
@@ -1006,12 +1012,13 @@ static PyObject *polygons_holds_each(Polygons *self, PyObject *args)
     bool is_sound = views == 2;
     for (Py_ssize_t at = 0; is_sound && at < len; at++)
         is_sound = is_part(self, parts[at]);
-    if (is_sound && (all = PyByteArray_FromStringAndSize(NULL, len))) {
-        char *into = PyByteArray_AsString(all);
+    char *into = is_sound && (all = PyByteArray_FromStringAndSize(NULL, len)) ? PyByteArray_AsString(all) : NULL;
+    for (Py_ssize_t at = 0; all && at < len;) {
         Py_BEGIN_ALLOW_THREADS
-        for (Py_ssize_t at = 0; at < len; at++)
-            into[at] = holds(self, parts[at], points[2 * at], points[2 * at + 1]);
+        at = hold_slice(self, parts, points, into, at, len);
         Py_END_ALLOW_THREADS
+        if (PyErr_CheckSignals() < 0)
+            Py_CLEAR(all);
     }
     release(of, views);
     return all;
@@ -1057,24 +1064,29 @@ static PyType_Slot polygons_slots[] = {
     {Py_tp_methods, polygons_methods}, {Py_tp_new, polygons_new}, {Py_tp_dealloc, polygons_free}, {0}};
 static PyType_Spec polygons_spec = {"rtfilter._engine.Polygons", sizeof(Polygons), 0, Py_TPFLAGS_DEFAULT, polygons_slots};
 
-/* know(classes, TableError, QueryError): those of regions and orders, in the order of `kinds`. */
+/* know(classes, TableError, QueryError, layer_bits): the classes of regions and orders, in the order of `kinds`. They stand for the
+ * whole process, so that one interpreter of it has them. */
 static PyObject *know(PyObject *Py_UNUSED(module), PyObject *args)
 {
-    PyObject *classes, *one, *other;
-    if (!PyArg_ParseTuple(args, "O!OO", &PyTuple_Type, &classes, &one, &other))
+    static int64_t owner = -1;
+    const int64_t interpreter = PyInterpreterState_GetID(PyInterpreterState_Get());
+    PyObject *classes, *one, *other, *reader;
+    if (owner >= 0 && owner != interpreter) {
+        PyErr_SetString(PyExc_ImportError, "another interpreter of this process has imported rtfilter");
+        return NULL;
+    }
+    if (!PyArg_ParseTuple(args, "O!OOO", &PyTuple_Type, &classes, &one, &other, &reader))
         return NULL;
     if (PyTuple_Size(classes) != KINDS) {
         PyErr_SetString(PyExc_ValueError, "another number of classes");
         return NULL;
     }
-    for (int at = 0; at < KINDS; at++) {
-        Py_XDECREF(kinds[at].class);
+    owner = interpreter;
+    for (int at = 0; at < KINDS; at++)
         kinds[at].class = Py_NewRef(PyTuple_GetItem(classes, at));
-    }
-    Py_XDECREF(table_error);
-    Py_XDECREF(query_error);
     table_error = Py_NewRef(one);
     query_error = Py_NewRef(other);
+    layer_bits = Py_NewRef(reader);
     return Py_NewRef(Py_None);
 }
 

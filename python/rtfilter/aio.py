@@ -8,16 +8,55 @@ A table in this process needs none of this: call it, or `asyncio.to_thread` for 
 
 import asyncio
 import os
+import socket
 from collections.abc import Iterable
 from types import TracebackType
 from typing import Any, Self
 
-from .client import PIECE, Address, name_of, named
+from .client import PAUSE, Address, Parse, Parsed, is_readable, name_of, named
 from .errors import Disconnected, TimedOut
 from .regions import All, Layers, Order, Region, count_line, find_line, nearest_line
-from .replies import MARKER, Answers, Reply, cut, ended, is_whole, joined, listed, reason, renumbered, single
+from .replies import MARKER, Answers, Reply, answers_of, cut, ended, is_whole, joined, listed, reason, renumbered
 
-Streams = tuple[asyncio.StreamReader, asyncio.StreamWriter]
+
+class Connection(asyncio.Protocol):
+    """A connection to a service, for one call at a time."""
+
+    def __init__(self) -> None:
+        self._received = bytearray()
+        self._has_ended = False
+        self._news = asyncio.Event()
+        self.lines = 0  # how many were sent
+
+    def connection_made(self, transport: Any) -> None:
+        self._transport = transport
+
+    def data_received(self, data: bytes) -> None:
+        self._received += data
+        self._news.set()
+
+    def connection_lost(self, error: Exception | None) -> None:
+        self._has_ended = True
+        self._news.set()
+
+    def is_lost(self) -> bool:
+        """Whether the service closed it, or said something between two calls: the loop may not know it yet."""
+        return self._has_ended or bool(self._received) or is_readable(self._transport.get_extra_info("socket"))
+
+    async def exchange(self, text: bytes, lines: int, name: str) -> bytes:
+        """The replies to a text of so many lines, of which the last one is answered."""
+        self.lines += lines
+        self._transport.write(text)
+        while not is_whole(self._received, self.lines):
+            if self._has_ended:
+                raise Disconnected(f"the service at {name} closed the connection{reason(self._received)}")
+            self._news.clear()
+            await self._news.wait()
+        replies, self._received = bytes(self._received), bytearray()
+        return replies
+
+    def close(self) -> None:
+        self._transport.close()
 
 
 class Client:
@@ -31,8 +70,7 @@ class Client:
         name_of(address)  # which raises TypeError for none
         self._address, self._timeout, self._process = address, timeout, os.getpid()
         self._lock = asyncio.Lock()
-        self._streams: Streams | None = None
-        self._lines = 0  # how many were sent on the connection
+        self._connection: Connection | None = None
         self._is_closed = False
 
     async def __aenter__(self) -> Self:
@@ -87,14 +125,12 @@ class Client:
     async def text(self, lines: bytes) -> bytes:
         """What the program writes for the bytes of query lines."""
         text = ended(lines)
-        replies, before = await self._exchange(text + MARKER, text.count(b"\n") + 1)
-        return renumbered(replies, before)
+        return await self._exchange(text + MARKER, text.count(b"\n") + 1, renumbered)
 
     async def replies(self, lines: Iterable[str]) -> list[Reply]:
         """The replies to query lines, as `Rtfilter.replies` gives them."""
         texts = listed(lines)
-        replies, before = await self._exchange(joined(texts) + MARKER, len(texts) + 1)
-        return cut(replies, [*texts, ""], before + 1)[:-1]
+        return (await self._exchange(joined(texts) + MARKER, len(texts) + 1, lambda it, first: cut(it, [*texts, ""], first)))[:-1]
 
     async def close(self) -> None:
         """Closes the connection. Later calls raise ValueError, and one that is under way Disconnected."""
@@ -102,64 +138,71 @@ class Client:
         self._drop()
 
     async def _single(self, line: str) -> Answers:
-        replies, before = await self._exchange(joined([line]), 1)
-        return single(replies, line, before + 1)
+        return answers_of((await self._exchange(joined([line]), 1, lambda it, first: cut(it, [line], first)))[0])
 
-    async def _exchange(self, text: bytes, lines: int) -> tuple[bytes, int]:
-        """The replies to lines, and how many lines came before them on the connection."""
+    async def _exchange(self, text: bytes, lines: int, parse: Parse[Parsed]) -> Parsed:
+        """The replies to a text of so many lines."""
         if os.getpid() != self._process:
             raise RuntimeError(f"the client belongs to process {self._process}: make another one after a fork")
         try:
             async with asyncio.timeout(self._timeout), self._lock:
                 if self._is_closed:
                     raise ValueError("the client was closed")
-                return await self._exchanged(text, lines)
+                return await self._answered(text, lines, parse)
         except TimedOut:
             raise
         except TimeoutError:
             raise TimedOut(f"no reply in {self._timeout} seconds") from None
 
-    async def _exchanged(self, text: bytes, lines: int) -> tuple[bytes, int]:
+    async def _answered(self, text: bytes, lines: int, parse: Parse[Parsed]) -> Parsed:
+        """The same, by the task that has the lock. What breaks it off leaves no connection, on which replies would still come."""
         try:
-            reader, writer = await self._connected()
-            before, self._lines = self._lines, self._lines + lines
-            writer.write(text)
-            received = bytearray()
-            while not is_whole(received, self._lines):
-                received += await self._received(reader, received)
-            return bytes(received), before
+            connection = await self._connected()
+            first = connection.lines + 1
+            return parse(await connection.exchange(text, lines, name_of(self._address)), first)
         except BaseException:
             self._drop()
             raise
 
-    async def _received(self, reader: asyncio.StreamReader, before: bytearray) -> bytes:
-        try:
-            piece = await reader.read(PIECE)
-        except ConnectionError:
-            piece = b""
-        if not piece:
-            raise Disconnected(f"the service at {name_of(self._address)} closed the connection{reason(before)}")
-        return piece
-
-    async def _connected(self) -> Streams:
-        if self._streams is not None and self._streams[0].at_eof():
+    async def _connected(self) -> Connection:
+        if self._connection is not None and self._connection.is_lost():
             self._drop()
-        if self._streams is None:
-            self._streams = await _opened(self._address)
-            self._lines = 0
-        return self._streams
+        if self._connection is None:
+            self._connection = await _opened(self._address)
+            if self._is_closed:
+                self._connection.close()
+        return self._connection
 
     def _drop(self) -> None:
-        streams, self._streams = self._streams, None
-        if streams is not None:
-            streams[1].close()
+        connection, self._connection = self._connection, None
+        if connection is not None:
+            connection.close()
 
 
-async def _opened(address: Address) -> Streams:
+async def _opened(address: Address) -> Connection:
     """A connection. Raises OSError with the address."""
+    loop = asyncio.get_running_loop()
     try:
         if isinstance(address, tuple):
-            return await asyncio.open_connection(*address)
-        return await asyncio.open_unix_connection(os.fspath(address))
+            _, connection = await loop.create_connection(Connection, *address)
+        else:
+            _, connection = await loop.create_unix_connection(Connection, sock=await _connected_here(os.fspath(address)))
+        return connection
     except OSError as error:
         raise named(error, address)
+
+
+async def _connected_here(path: str) -> socket.socket:
+    """A Unix socket that is connected. A service that has many waiting is tried again."""
+    found = socket.socket(socket.AF_UNIX)
+    try:
+        found.setblocking(False)
+        while True:
+            try:
+                found.connect(path)
+                return found
+            except BlockingIOError:
+                await asyncio.sleep(PAUSE)
+    except BaseException:
+        found.close()
+        raise

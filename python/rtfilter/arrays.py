@@ -18,7 +18,7 @@ from .regions import All, Circle, Covers, Inside, Layers, Near, Order, Window
 
 Columns = list[NDArray[Any]]
 
-ID, SIDES, LAYER = ("id",), ("min_x", "max_x", "min_y", "max_y"), ("layer",)
+SIDES = ("min_x", "max_x", "min_y", "max_y")
 BOUNDS = ("min_x", "min_y", "max_x", "max_y")
 POINT = ("x", "y")
 MEMBERS: dict[type, tuple[str, ...]] = {All: (), Window: SIDES, Inside: SIDES, Covers: SIDES, Circle: ("x", "y", "radius")}
@@ -36,11 +36,8 @@ def is_frame(value: object) -> bool:
 def columns_of(value: Any, what: str, required: Sequence[str], optional: Sequence[str] = ()) -> Columns:
     """Columns of whole numbers: of an array of two dimensions, of a list of rows, or of a frame or an array with fields, by
     their names. Raises TypeError where a number isn't whole, a column is missing or there twice, or the shape is another."""
-    names = value.columns if is_frame(value) else getattr(getattr(value, "dtype", None), "names", None)
-    if names is not None:
-        columns = [numpy.asanyarray(value[name]) for name in _found(list(names), what, required, optional)]
-        if any(it.ndim != 1 for it in columns):
-            raise TypeError(f"{what}: a column has one number for each row")
+    columns = _named(value, what, required, optional)
+    if columns is not None:
         return [whole(it, what) for it in columns]
     array = value if isinstance(value, numpy.ndarray) else _array(value, what)
     if array.shape == (0,):
@@ -51,16 +48,42 @@ def columns_of(value: Any, what: str, required: Sequence[str], optional: Sequenc
     return list(whole(array, what).T)
 
 
+def floats_of(value: Any, what: str, names: Sequence[str]) -> NDArray[numpy.float64]:
+    """An array of floats: an array or a list of numbers, or the columns of a frame or an array with fields, by their names. Raises
+    TypeError where something is no number, is masked, or a column is missing or there twice."""
+    columns = _named(value, what, names)
+    array = _unmasked(_read(value, what), what) if columns is None else numpy.stack(columns, axis=1)
+    if array.dtype.kind not in "biufO":
+        raise TypeError(f"{what}: numbers are {array.dtype}")
+    return numpy.asarray(array, "f8")
+
+
+def _named(value: Any, what: str, required: Sequence[str], optional: Sequence[str] = ()) -> Columns | None:
+    """The columns of a frame or of an array with fields, by their names; None where there are no names."""
+    names = value.columns if is_frame(value) else getattr(getattr(value, "dtype", None), "names", None)
+    if names is None:
+        return None
+    columns = [_unmasked(numpy.asanyarray(value[name]), what) for name in _found(list(names), what, required, optional)]
+    if any(it.ndim != 1 for it in columns):
+        raise TypeError(f"{what}: a column has one number for each row")
+    return columns
+
+
 def _array(rows: Any, what: str) -> NDArray[Any]:
     """Rows as an array. Where numpy would make floats of whole numbers, each stays as it is."""
     if not isinstance(rows, Iterable):
         raise TypeError(f"{what}: an array, a frame or a list of rows, and not {rows!r:.200}")
     listed = list(rows)
+    array = _read(listed, what)
+    return array if array.dtype.kind in "iu" else numpy.array(listed, dtype=object)
+
+
+def _read(value: Any, what: str) -> NDArray[Any]:
+    """What numpy makes of a value."""
     try:
-        array = numpy.array(listed)
+        return numpy.asanyarray(value)
     except ValueError:
         raise TypeError(f"{what}: rows of different lengths") from None
-    return array if array.dtype.kind in "iu" else numpy.array(listed, dtype=object)
 
 
 def _found(names: list[Any], what: str, required: Sequence[str], optional: Sequence[str]) -> Iterator[Any]:
@@ -76,14 +99,20 @@ def _found(names: list[Any], what: str, required: Sequence[str], optional: Seque
 
 def whole(array: NDArray[Any], what: str) -> NDArray[Any]:
     """An array of whole numbers. Raises TypeError for another type, for floats with whole values too."""
-    if isinstance(array, numpy.ma.MaskedArray) and array.mask.any():
-        raise TypeError(f"{what}: a number is masked")
+    array = _unmasked(array, what)
     if array.dtype.kind == "O":
         width = array.size // max(len(array), 1)
         numbers = [_whole(it, what, at, width) for at, it in enumerate(array.flat)]
         return numpy.array(numbers, dtype=object).reshape(array.shape)
     if array.dtype.kind not in "iu":
         raise TypeError(f"{what}: numbers are {array.dtype}, and not whole{FLOATS * (array.dtype.kind == 'f')}")
+    return array
+
+
+def _unmasked(array: NDArray[Any], what: str) -> NDArray[Any]:
+    """An array without a mask. Raises TypeError where a number is masked."""
+    if isinstance(array, numpy.ma.MaskedArray) and array.mask.any():
+        raise TypeError(f"{what}: a number is masked")
     return numpy.asarray(array)
 
 
@@ -94,6 +123,14 @@ def _whole(number: Any, what: str, at: int, width: int) -> int:
     except TypeError:
         help = FLOATS * isinstance(number, float)
         raise TypeError(f"{what}: row {at // width}: {number!r} isn't a whole number{help}") from None
+
+
+def ids_of(values: NDArray[Any], what: str) -> NDArray[numpy.int64]:
+    """A column of ids. Raises TypeError where one isn't whole, and ValueError where one is out of range."""
+    ids = whole(values, what)
+    if first_beyond([ids], ["i8"]) is not None:
+        raise ValueError(f"{what}: a number is out of the range of 64 bits")
+    return converted([ids], ["i8"])[0]
 
 
 @cache
@@ -125,9 +162,10 @@ class Queries:
     """Many queries of one kind, whose numbers are columns, packed as the library has them."""
 
     def __init__(self, region: type, columns: Columns, order: Order | None, first: int | None, on: Layers | None) -> None:
-        self.region, self.columns, self.order, self.first = region, columns, order, first
+        self.region, self.columns, self.order = region, columns, order
         self._members = MEMBERS[region]
         self._prototype = _engine.query_of(region, order, first, on)
+        self.first = None if first is None else index(first)
 
     def __len__(self) -> int:
         return len(self.columns[0]) if self.columns else 0

@@ -5,19 +5,23 @@ import select
 import socket
 import threading
 import time
-from collections.abc import Iterable
-from typing import Any, Union
+from collections.abc import Callable, Iterable
+from contextlib import suppress
+from typing import Any, TypeVar, Union
 
 from .calls import SingleCalls
 from .errors import Disconnected, TimedOut
 from .regions import All, Layers, Order, Region, count_line, find_line, nearest_line
-from .replies import MARKER, Answers, Reply, cut, ended, is_whole, joined, listed, reason, renumbered, single
+from .replies import MARKER, Answers, Reply, answers_of, cut, ended, is_whole, joined, listed, reason, renumbered
 
 Address = Union[str, "os.PathLike[str]", tuple[str, int]]
 """Where a service listens: the path of a Unix socket, or the host and the port of a TCP socket."""
 
 PIECE = 65_536  # bytes
 PAUSE = 0.002  # seconds between two tries to connect to a service that has many waiting
+LONGEST_WAIT = 2e6  # seconds: what the system takes
+Parsed = TypeVar("Parsed")
+Parse = Callable[[bytes, int], Parsed]  # reads the replies to lines, of which the first has this number
 
 
 class Deadline:
@@ -28,13 +32,13 @@ class Deadline:
         self._until = None if seconds is None else time.monotonic() + seconds
 
     def left(self) -> float | None:
-        """The seconds that are left. Raises TimedOut where none are."""
+        """The seconds that are left, or as many as a wait may have. Raises TimedOut where none are."""
         if self._until is None:
             return None
         left = self._until - time.monotonic()
         if left <= 0:
             raise TimedOut(f"no reply in {self._seconds} seconds")
-        return left
+        return min(left, LONGEST_WAIT)
 
 
 class Connection:
@@ -48,7 +52,7 @@ class Connection:
 
     def is_lost(self) -> bool:
         """Whether the service closed it, as far as is known between two calls."""
-        return bool(select.select([self._socket], [], [], 0)[0])
+        return is_readable(self._socket)
 
     def exchange(self, text: bytes, lines: int, deadline: Deadline) -> bytes:
         """The replies to a text of so many lines, of which the last one is answered."""
@@ -137,14 +141,12 @@ class Client(SingleCalls):
     def text(self, lines: bytes) -> bytes:
         """What the program writes for the bytes of query lines."""
         text = ended(lines)
-        replies, before = self._exchange(text + MARKER, text.count(b"\n") + 1)
-        return renumbered(replies, before)
+        return self._exchange(text + MARKER, text.count(b"\n") + 1, renumbered)
 
     def replies(self, lines: Iterable[str]) -> list[Reply]:
         """The replies to query lines, as `Rtfilter.replies` gives them."""
         texts = listed(lines)
-        replies, before = self._exchange(joined(texts) + MARKER, len(texts) + 1)
-        return cut(replies, [*texts, ""], before + 1)[:-1]
+        return self._exchange(joined(texts) + MARKER, len(texts) + 1, lambda it, first: cut(it, [*texts, ""], first))[:-1]
 
     def close(self) -> None:
         """Closes the connection, at the end of a call that is under way. Later calls raise ValueError."""
@@ -163,11 +165,10 @@ class Client(SingleCalls):
         return [*zip(answers.ids, answers.scores)] if scores else answers.ids
 
     def _single(self, line: str) -> Answers:
-        replies, before = self._exchange(joined([line]), 1)
-        return single(replies, line, before + 1)
+        return answers_of(self._exchange(joined([line]), 1, lambda it, first: cut(it, [line], first))[0])
 
-    def _exchange(self, text: bytes, lines: int) -> tuple[bytes, int]:
-        """The replies to lines, and how many lines came before them on the connection."""
+    def _exchange(self, text: bytes, lines: int, parse: Parse[Parsed]) -> Parsed:
+        """The replies to a text of so many lines."""
         deadline, caller = Deadline(self._timeout), threading.get_ident()
         self._check()
         left = deadline.left()
@@ -177,7 +178,7 @@ class Client(SingleCalls):
                 raise TimedOut("another call took too long")
             self._caller = caller
             self._check_open()
-            return self._answered(text, lines, deadline)
+            return self._answered(text, lines, parse, deadline)
         finally:
             # (without a call before the lock's own, at which a signal would be handled)
             if self._caller == caller:
@@ -189,18 +190,18 @@ class Client(SingleCalls):
             if self._is_closed:
                 self.close()
 
-    def _answered(self, text: bytes, lines: int, deadline: Deadline) -> tuple[bytes, int]:
+    def _answered(self, text: bytes, lines: int, parse: Parse[Parsed], deadline: Deadline) -> Parsed:
         """The same, by the thread that has the lock. What breaks it off leaves no connection, on which replies would still come."""
         connection = self._connected(deadline)
         self._connection = None
         try:
-            before = connection.lines
-            replies = connection.exchange(text, lines, deadline)
+            first = connection.lines + 1
+            replies = parse(connection.exchange(text, lines, deadline), first)
         except BaseException:
             connection.close()
             raise
         self._connection = connection
-        return replies, before
+        return replies
 
     def _check(self) -> None:
         if os.getpid() != self._process:
@@ -242,14 +243,21 @@ def named(error: OSError, address: Address) -> OSError:
     return error
 
 
+def is_readable(file: Any) -> bool:
+    """Whether something has come on a connection, or its end."""
+    poll = select.poll()
+    poll.register(file, select.POLLIN)
+    return bool(poll.poll(0))
+
+
 def connected(address: Address, deadline: Deadline) -> socket.socket:
-    """A socket that is connected. Raises OSError with the address."""
+    """A socket that is connected, by the first address of a host that takes it. Raises OSError with the address."""
     try:
-        if isinstance(address, tuple):
-            found = socket.create_connection(address, deadline.left())
-            found.setsockopt(socket.IPPROTO_TCP, socket.TCP_NODELAY, 1)
-            return found
-        return _connected_here(os.fspath(address), deadline)
+        *others, last = _places_of(address)
+        for family, place in others:
+            with suppress(OSError):
+                return _connected(family, place, deadline)
+        return _connected(*last, deadline)
     except TimedOut:
         raise
     except TimeoutError:
@@ -258,14 +266,23 @@ def connected(address: Address, deadline: Deadline) -> socket.socket:
         raise named(error, address)
 
 
-def _connected_here(path: str, deadline: Deadline) -> socket.socket:
-    """A Unix socket that is connected. A service that has many waiting is tried again."""
-    found = socket.socket(socket.AF_UNIX)
+def _places_of(address: Address) -> list[tuple[int, Any]]:
+    """Where to connect to: families and addresses of sockets."""
+    if isinstance(address, tuple):
+        return [(family, place) for family, _, _, _, place in socket.getaddrinfo(*address, type=socket.SOCK_STREAM)]
+    return [(socket.AF_UNIX, os.fspath(address))]
+
+
+def _connected(family: int, place: Any, deadline: Deadline) -> socket.socket:
+    """A socket that is connected. A service at a Unix socket that has many waiting is tried again."""
+    found = socket.socket(family)
     try:
+        if family != socket.AF_UNIX:
+            found.setsockopt(socket.IPPROTO_TCP, socket.TCP_NODELAY, 1)
         while True:
             try:
                 found.settimeout(deadline.left())
-                found.connect(path)
+                found.connect(place)
                 return found
             except BlockingIOError:
                 time.sleep(PAUSE)

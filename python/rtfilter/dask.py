@@ -8,7 +8,7 @@ Queries are the rows of a dask dataframe, and so are the answers, which dask com
 import math
 import os
 import threading
-from collections.abc import Callable
+from collections.abc import Callable, Sequence
 from functools import partial
 from typing import Any, NamedTuple
 
@@ -100,11 +100,11 @@ class Table:
     def count(self, frame: Frame, region: type = Window, *, on: Layers | None = None) -> Frame:
         """A series, `count`: how many boxes each region accepts."""
         ask = partial(_regions, region, None, None, on)
-        ask(frame._meta)
+        ask(_meta_of(frame))
         return frame.map_partitions(_counted_whole, self, ask, meta=COUNTS)
 
     def _answers(self, frame: Frame, meta: Frame, ask: Ask, gather: Gather) -> Frame:
-        ask(frame._meta)  # raises for a column that isn't there before anything is computed
+        ask(_meta_of(frame))  # raises for a column that isn't there before anything is computed
         return frame.map_partitions(_found_whole, self, ask, gather, meta=meta)
 
 
@@ -117,7 +117,7 @@ class Boxes:
     """
 
     def __init__(self, frame: Frame) -> None:
-        self._meta = frame._meta
+        self._meta = _meta_of(frame, ["id", *_sides_of(frame)])
         self._is_whole = GEOMETRY not in frame.columns and all(frame.dtypes[it].kind in "iu" for it in BOUNDS)
         part = WholePart if self._is_whole else FloatPart
         self._parts = [*dask.persist(*[dask.delayed(part)(it) for it in frame.to_delayed()])]
@@ -147,7 +147,7 @@ class Boxes:
     def count(self, frame: Frame, region: type = Window, *, on: Layers | None = None, predicate: str | None = None) -> Frame:
         """As `Table.count`."""
         ask = self._ask(region, None, None, on, predicate)
-        ask(frame._meta)
+        ask(_meta_of(frame))
 
         def counted(some: Frame) -> Any:
             routed = self._routed(some, ask)
@@ -157,9 +157,9 @@ class Boxes:
 
     def join(self, frame: Frame, region: type = Window, *, on: Layers | None = None, predicate: str | None = None) -> Frame:
         """The rows of `frame`, each once for every box that it accepts, by id, with the columns of the box but for its geometry. A
-        column whose name `frame` has too gets the suffix `_right`."""
+        column whose name `frame` has too gets the suffix `_right`. Raises ValueError where `frame` has this name too."""
         nothing = Found(numpy.empty(0, "i8"), numpy.empty(0, "i8"), None, _without_geometry(self._meta))
-        meta = _with_columns(frame._meta, [nothing], None)
+        meta = _with_columns(_meta_of(frame), [nothing], None)
         return self._answers(frame, meta, self._ask(region, None, None, on, predicate), _with_columns, has_columns=True)
 
     def _ask(self, region: type, order: Order | None, first: int | None, on: Layers | None, predicate: str | None) -> Ask:
@@ -172,7 +172,7 @@ class Boxes:
         return partial(_shapes, predicate)
 
     def _answers(self, frame: Frame, meta: Frame, ask: Ask, gather: Gather, has_columns: bool = False) -> Frame:
-        kind = ask(frame._meta)
+        kind = ask(_meta_of(frame))
         is_in_two_goes = isinstance(kind, Queries) and merging.is_in_two_goes(kind)
 
         def answered(some: Frame) -> Any:
@@ -196,7 +196,7 @@ class WholePart:
 
     def __init__(self, frame: Frame) -> None:
         self.frame = frame.sort_values("id", ignore_index=True)
-        self.ids = _ids_of(self.frame)
+        self.ids = arrays.ids_of(numpy.asanyarray(self.frame["id"]), "id")
         layers = self.frame["layer"] if "layer" in self.frame else None
         self.table = Rtfilter.from_bounds(self.frame[[*BOUNDS]], layers=layers)
         self.bounds = self.table.bounds
@@ -218,7 +218,7 @@ class FloatPart:
 
     def __init__(self, frame: Frame) -> None:
         self.frame = frame.sort_values("id", ignore_index=True)
-        self.ids = _ids_of(self.frame)
+        self.ids = arrays.ids_of(numpy.asanyarray(self.frame["id"]), "id")
         is_bare = GEOMETRY not in frame.columns
         self.tree = STRtree.from_bounds(self.frame[[*BOUNDS]].to_numpy("f8")) if is_bare else STRtree(self.frame)
         self.bounds = self.tree.bounds
@@ -253,6 +253,9 @@ def spatial_shuffle(frame: Frame, partitions: int) -> Frame:
 
     The frame is read twice. Write the new one to files before it is loaded, or a lost worker costs another shuffle.
     """
+    _meta_of(frame, _sides_of(frame))
+    if partitions < 1:
+        raise ValueError(f"partitions are 1 or more, and not {partitions}")
     if GEOMETRY in frame.columns:
         _know_geometries(frame.dtypes[GEOMETRY])
     sample = frame.map_partitions(_sampled, meta=pandas.DataFrame({"x": [0.0], "y": [0.0]})).compute()
@@ -272,12 +275,19 @@ def _stamp_of(file: str) -> tuple[int, int]:
     return found.st_size, found.st_mtime_ns
 
 
-def _ids_of(frame: Frame) -> NDArray[Any]:
-    """The ids of boxes. Raises TypeError where one isn't whole, and ValueError where one is out of range."""
-    ids = arrays.whole(numpy.asanyarray(frame["id"]), "id")
-    if arrays.first_beyond([ids], ["i8"]) is not None:
-        raise ValueError("id: a number is out of the range of 64 bits")
-    return arrays.converted([ids], ["i8"])[0]
+def _meta_of(frame: Frame, required: Sequence[str] = ()) -> Frame:
+    """The columns of a dask dataframe. Raises TypeError for another frame, and where one of these columns is missing."""
+    if not isinstance(frame, dask.dataframe.DataFrame):
+        raise TypeError(f"frame is a dask dataframe, and not {type(frame).__name__}")
+    for column in required:
+        if column not in frame.columns:
+            raise TypeError(f"frame: there is no column {column} among {', '.join(map(str, frame.columns))}")
+    return frame._meta
+
+
+def _sides_of(frame: Frame) -> Sequence[str]:
+    """The columns that say where boxes lie."""
+    return [GEOMETRY] if GEOMETRY in getattr(frame, "columns", ()) else BOUNDS
 
 
 def _regions(region: type, order: Order | None, first: int | None, on: Layers | None, frame: Frame) -> Queries:
@@ -352,7 +362,10 @@ def _with_columns(frame: Frame, found: list[Found], _: int | None) -> Frame:
     joined = frame.iloc[places[order]].copy()
     columns = pandas.concat([it.columns for it in found]).iloc[order]
     for name in columns:
-        joined[f"{name}_right" if name in frame.columns else name] = columns[name].array
+        own = f"{name}_right" if name in frame.columns else name
+        if own in joined:
+            raise ValueError(f"two columns are called {own}")
+        joined[own] = columns[name].array
     return joined
 
 

@@ -45,13 +45,16 @@ class QueryError(RtfilterError, ValueError):
         self.query, self.place, self.code, self.text = query, place, code, text
 
     def __str__(self) -> str:
-        query = "" if self.query is None else f": {self.query!s:.200}"
+        try:
+            query = "" if self.query is None else f": {self.query!s:.200}"
+        except ValueError:  # a number with more digits than Python prints
+            query = ""
         place = "" if self.place is None else f", at place {self.place}"
         return f"{self.code} {self.text}{query}{place}" + (SIDES if self.code == "Q7" else "")
 
 
 class Disconnected(RtfilterError, ConnectionError):
-    """A service closed the connection."""
+    """A service closed the connection, or sent what is no reply."""
 
 
 class TimedOut(RtfilterError, TimeoutError):

@@ -11,7 +11,7 @@ from typing import Any
 import numpy
 from numpy.typing import NDArray
 
-from .arrays import Nearest, Queries
+from .arrays import BOUNDS, Nearest, Queries, floats_of
 from .regions import Window
 from .table import Rtfilter
 
@@ -26,7 +26,7 @@ UNDERFLOW = 2.0**-500  # distances below it may be computed as 0, since their sq
 
 def rows_of(bounds: Any, what: str) -> Floats:
     """Rows of min_x, min_y, max_x, max_y; NaN stands for nothing. Raises ValueError for infinite or turned ones."""
-    rows = numpy.ascontiguousarray(bounds, "f8")
+    rows = numpy.ascontiguousarray(floats_of(bounds, what, BOUNDS))
     if rows.size == 0:
         return numpy.empty((0, 4))
     if rows.ndim != 2 or rows.shape[1] != 4:
@@ -71,6 +71,11 @@ class FloatBoxes:
         self._grid = Grid(bounds[ids])
         whole, self._is_whole = self._grid.widened(bounds[ids])
         self.table = Rtfilter.from_bounds(whole, ids=ids)
+
+    def extent(self) -> list[float]:
+        """The least box around all boxes, as min_x, min_y, max_x, max_y; infinite, and turned, for none."""
+        rows = self.bounds[~numpy.isnan(self.bounds).any(axis=1)]
+        return [*rows[:, :2].min(0, initial=numpy.inf).tolist(), *rows[:, 2:].max(0, initial=-numpy.inf).tolist()]
 
     def meeting(self, bounds: Floats, is_exact: bool = True) -> tuple[Places, Places]:
         """The places of bounds, and of the boxes that overlap each of them; perhaps more, where it needn't be exact."""

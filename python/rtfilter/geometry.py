@@ -8,6 +8,7 @@ import numpy
 import shapely
 from numpy.typing import NDArray
 
+from .arrays import BOUNDS, floats_of
 from .floats import FloatBoxes, Floats, Places, rows_of, widened
 
 IS_TWO = shapely.__version__ >= "2"
@@ -21,8 +22,9 @@ MIRRORED = {  # predicate(a, b) is MIRRORED[predicate](b, a)
     "overlaps": "overlaps",
     "touches": "touches",
 }
-BY_INPUT = "contains", "covers"  # predicates for which the geometry of the query is prepared, and not that of the tree
+BY_INPUT = "contains", "contains_properly", "covers"  # predicates for which the geometry of the query is prepared, not that of the tree
 DWITHIN = "dwithin"
+PREDICATES = sorted({*MIRRORED, *BY_INPUT, DWITHIN})
 PROBES = 4  # boxes close to a geometry, whose distances bound that of the nearest one
 
 Objects = NDArray[Any]
@@ -43,7 +45,7 @@ class STRtree:
         """A tree of rows (min_x, min_y, max_x, max_y) alone, for `query_bounds` and `query` without a predicate."""
         tree = cls.__new__(cls)
         tree.geometries = None
-        tree._boxes = FloatBoxes(rows_of(numpy.array(bounds, "f8"), "bounds"))  # (a copy, which no caller changes)
+        tree._boxes = FloatBoxes(rows_of(bounds, "bounds").copy())  # (which no caller changes)
         return tree
 
     def __reduce__(self) -> Any:
@@ -58,16 +60,13 @@ class STRtree:
     @property
     def bounds(self) -> tuple[float, float, float, float] | None:
         """The least box around all geometries, as min_x, min_y, max_x, max_y; None where there are none."""
-        rows = self._boxes.bounds[~numpy.isnan(self._boxes.bounds).any(axis=1)]
-        if not len(rows):
-            return None
-        (min_x, min_y), (max_x, max_y) = rows[:, :2].min(axis=0).tolist(), rows[:, 2:].max(axis=0).tolist()
-        return min_x, min_y, max_x, max_y
+        min_x, min_y, max_x, max_y = self._boxes.extent()
+        return (min_x, min_y, max_x, max_y) if len(self) else None
 
     def query_bounds(self, bounds: Any) -> Places:
         """Return the positions of the geometries whose bounds overlap (min_x, min_y, max_x, max_y). For rows of bounds, an array
         of two rows: the positions of the bounds, and of the geometries."""
-        array = numpy.asarray(bounds, "f8")
+        array = floats_of(bounds, "bounds", BOUNDS)
         if array.shape == (4,):
             return self._boxes.meeting(rows_of(array[None], "bounds"))[1]
         return numpy.stack(self._boxes.meeting(rows_of(array, "bounds")))
@@ -76,11 +75,11 @@ class STRtree:
         """Return the positions of the geometries for which predicate(geometry, other) holds; without a predicate, of those whose
         bounds overlap. For several geometries, an array of two rows: their positions, and those of geometries in the tree.
 
-        Predicates are those of shapely: contains, covered_by, covers, crosses, intersects, overlaps, touches, within; and
-        dwithin, for which `distance` is a number, or one for each geometry.
+        Predicates are those of shapely: contains, contains_properly, covered_by, covers, crosses, intersects, overlaps, touches,
+        within; and dwithin, for which `distance` is a number, or one for each geometry.
         """
-        if predicate not in (None, DWITHIN, *MIRRORED):
-            raise ValueError(f"{predicate!r} is no predicate; there are {', '.join(sorted([DWITHIN, *MIRRORED]))}")
+        if predicate is not None and predicate not in PREDICATES:
+            raise ValueError(f"{predicate!r} is no predicate; there are {', '.join(PREDICATES)}")
         if (predicate == DWITHIN) != (distance is not None):
             raise ValueError("a distance goes with the predicate dwithin")
         is_single, inputs = inputs_of(geometry)
@@ -190,27 +189,39 @@ def are_so(predicate: str, inputs: Objects, geometries: Objects) -> NDArray[nump
     for at, (one, other) in enumerate(zip(some, others)):
         if id(one) not in prepared:
             prepared[id(one)] = prep(one)
-        found[at] = getattr(prepared[id(one)], name)(other)
+        try:
+            found[at] = getattr(prepared[id(one)], name)(other)
+        except AttributeError:  # (which shapely 1.8 raises of an invalid geometry that is prepared)
+            found[at] = getattr(one, name)(other)
     return found
 
 
 def sjoin(left: Any, right: Any, how: str = "inner", predicate: str = "intersects") -> Any:
     """Join two frames by their geometries, as geopandas' `sjoin` does. Rows are by those of `left` and then of `right`, or with
     `how` "right" the other way round. Different CRS cause a warning; nothing is converted."""
+    import pandas
+    from geopandas import GeoDataFrame
+
+    for name, given in (("left", left), ("right", right)):
+        if not isinstance(given, GeoDataFrame):
+            raise TypeError(f"{name} is a GeoDataFrame, and not {type(given).__name__}")
     if how not in ("inner", "left", "right"):
         raise ValueError(f"how is inner, left or right, and not {how!r}")
     if left.crs != right.crs:
         warnings.warn(f"the frames have different CRS: {left.crs} and {right.crs}", stacklevel=2)
     lefts, rights = STRtree(right).query(left.geometry, predicate)
-    if how == "right":
+    if how != "right":
+        frame, rest = _joined(left, right, lefts, rights, how == "left", ("left", "right"))
+    else:
         order = numpy.lexsort([lefts, rights])
-        return _joined(right, left, rights[order], lefts[order], True, ("right", "left"))
-    return _joined(left, right, lefts, rights, how == "left", ("left", "right"))
+        frame, rest = _joined(right, left, rights[order], lefts[order], True, ("right", "left"))
+    joined = pandas.concat([frame, rest], axis=1)
+    return joined if how != "right" else joined.iloc[:, numpy.roll(range(joined.shape[1]), rest.shape[1])]
 
 
-def _joined(kept: Any, other: Any, places: Places, others: Places, has_all: bool, names: tuple[str, str]) -> Any:
-    """The rows of one frame at these places, beside those of the other one, whose geometries are dropped. With all, rows of
-    the first without a match are there too, in their places."""
+def _joined(kept: Any, other: Any, places: Places, others: Places, has_all: bool, names: tuple[str, str]) -> tuple[Any, Any]:
+    """The rows of one frame at these places, and beside them those of the other one, whose geometries are dropped. With all, rows
+    of the first without a match are there too, in their places."""
     import pandas
 
     if has_all:
@@ -226,12 +237,4 @@ def _joined(kept: Any, other: Any, places: Places, others: Places, has_all: bool
     rest.index = frame.index
     shared = [it for it in rest if it in frame]
     frame = frame.rename(columns={it: f"{it}_{names[0]}" for it in shared})
-    rest = rest.rename(columns={it: f"{it}_{names[1]}" for it in shared})
-    return frame.join(rest) if frame.index.is_unique else _beside(frame, rest)
-
-
-def _beside(frame: Any, rest: Any) -> Any:
-    """A frame with the columns of another one that has the same rows."""
-    for name in rest:
-        frame[name] = rest[name].to_numpy()
-    return frame
+    return frame, rest.rename(columns={it: f"{it}_{names[1]}" for it in shared})

@@ -6,6 +6,7 @@ from typing import Any
 
 import numpy
 
+from .arrays import ids_of
 from .floats import FloatBoxes, Floats, rows_of
 
 
@@ -21,7 +22,7 @@ class Index:
         self.interleaved = interleaved
         items = [(index(item[0]), self._sides(item[1])) for item in stream]
         items.sort(key=itemgetter(0))
-        self._ids = numpy.array([id for id, _ in items], "i8")
+        self._ids = ids_of(numpy.array([id for id, _ in items], object), "ids")
         if (self._ids[1:] == self._ids[:-1]).any():
             raise ValueError("an id is there twice")
         self._boxes = FloatBoxes(rows_of([sides for _, sides in items], "stream"))
@@ -66,10 +67,8 @@ class Index:
     @property
     def bounds(self) -> list[float]:
         """The least box around all, in the order of the coordinates; infinite, and turned, for none."""
-        boxes = self._boxes.bounds
-        low = boxes[:, :2].min(0, initial=numpy.inf).tolist()
-        high = boxes[:, 2:].max(0, initial=-numpy.inf).tolist()
-        return [*low, *high] if self.interleaved else [low[0], high[0], low[1], high[1]]
+        min_x, min_y, max_x, max_y = self._boxes.extent()
+        return [min_x, min_y, max_x, max_y] if self.interleaved else [min_x, max_x, min_y, max_y]
 
     def __len__(self) -> int:
         return len(self._ids)

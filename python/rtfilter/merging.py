@@ -5,6 +5,7 @@ time, and changes no answer.
 """
 
 from collections.abc import Sequence
+from operator import index
 from typing import Any
 
 import numpy
@@ -140,7 +141,7 @@ def _reached(queries: Queries, bounds: NDArray[Any], may_answer: NDArray[numpy.b
     if isinstance(queries, Nearest) or queries.order is None:
         points = queries.columns[:2]
     else:
-        points = [numpy.full(len(queries), it) for it in queries.order]
+        points = [numpy.full(len(queries), index(it)) for it in queries.order]
     return numpy.where(may_answer, _squares(points, bounds), numpy.inf)
 
 

@@ -123,8 +123,8 @@ Order = Union[Near, Smallest]
 Layers = Union[int, Iterable[int]]
 """A layer, or some of them."""
 
-CLASSES = All, Window, Inside, Covers, Circle, Polygon, Near, Smallest
-ORDERS = Near, Smallest
+REGIONS: tuple[type, ...] = All, Window, Inside, Covers, Circle, Polygon
+ORDERS: tuple[type, ...] = Near, Smallest
 
 
 def find_line(region: Region, order: Order | None, first: int | None, on: Layers | None) -> str:
@@ -145,8 +145,31 @@ def nearest_line(k: int, x: int, y: int) -> str:
     return f"nearest {index(k)} {index(x)} {index(y)}"
 
 
+def layer_bits(on: Layers) -> int:
+    """Layers as bits of a number."""
+    if isinstance(on, (str, bytes)):
+        raise TypeError(f"layers are whole numbers, and not {on!r:.200}")
+    layers: Any = on
+    if not isinstance(on, Iterable) or getattr(on, "ndim", None) == 0:  # (an array may be a number)
+        layers = [on]
+    bits = 0
+    for layer in layers:
+        if type(layer).__name__ in ("bool", "bool_"):  # (numpy's own is no bool)
+            raise TypeError(f"a layer is a whole number, and not {layer}")
+        try:
+            number = index(layer)
+        except TypeError:
+            raise TypeError(f"{layer!r:.200} isn't a whole number") from None
+        if not 0 <= number < LAYER_COUNT:
+            raise ValueError(f"a layer is 0 to {LAYER_COUNT - 1}, and not {layer}")
+        bits |= 1 << number
+    if not bits:
+        raise ValueError("no layer is given; None stands for all layers")
+    return bits
+
+
 def _checked(value: Region | Order, kind: str) -> Region | Order:
-    if not isinstance(value, CLASSES) or isinstance(value, ORDERS) != (kind == "order"):
+    if type(value) not in (ORDERS if kind == "order" else REGIONS):
         raise TypeError(f"{value!r} is no {kind}")
     return value
 
@@ -155,14 +178,5 @@ def _on(on: Layers | None) -> list[str]:
     """The words of a list of layers."""
     if on is None:
         return []
-    if isinstance(on, (str, bytes)):
-        raise TypeError(f"layers are whole numbers, and not {on!r}")
-    layers = [*on] if isinstance(on, Iterable) else [on]
-    for layer in layers:
-        if isinstance(layer, bool):
-            raise TypeError(f"a layer is a whole number, and not {layer}")
-        if not 0 <= index(layer) < LAYER_COUNT:
-            raise ValueError(f"a layer is 0 to {LAYER_COUNT - 1}, and not {layer}")
-    if not layers:
-        raise ValueError("no layer is given; None stands for all layers")
-    return ["on", ",".join(str(index(it)) for it in layers)]
+    bits = layer_bits(on)
+    return ["on", ",".join(str(layer) for layer in range(LAYER_COUNT) if bits >> layer & 1)]

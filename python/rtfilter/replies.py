@@ -3,9 +3,9 @@
 import os
 import re
 from collections.abc import Iterable
-from typing import NamedTuple, Union
+from typing import Any, NamedTuple, Union
 
-from .errors import QueryError
+from .errors import Disconnected, QueryError
 
 LAST_LINE = re.compile(rb"(ok|error) (\d+) ([^\n]*)\n")  # of a reply; no answer before it holds a letter
 
@@ -42,17 +42,21 @@ def joined(lines: list[str]) -> bytes:
 
 
 def cut(text: bytes, lines: list[str], first: int = 1) -> list[Reply]:
-    """The reply to each of these lines, of which the first has this number. Lines without one were skipped."""
+    """The reply to each of these lines, of which the first has this number. Lines without one were skipped. Raises Disconnected
+    where a text is no reply."""
     replies: list[Reply] = [None] * len(lines)
     parts = LAST_LINE.split(text)
-    for answers, kind, number, rest in zip(parts[0::4], parts[1::4], parts[2::4], parts[3::4]):
-        at = int(number) - first
-        if kind == b"ok":
-            numbers = [*map(int, answers.split())]
-            replies[at] = Answers(numbers[0::2], numbers[1::2], int(rest))
-        else:
-            code, _, words = rest.decode().partition(" ")
-            replies[at] = QueryError(lines[at], None, code, words)
+    try:
+        for answers, kind, number, rest in zip(parts[0::4], parts[1::4], parts[2::4], parts[3::4]):
+            at = int(number) - first
+            if kind == b"ok":
+                numbers = [*map(int, answers.split())]
+                replies[at] = Answers(numbers[0::2], numbers[1::2], int(rest))
+            else:
+                code, _, words = rest.decode().partition(" ")
+                replies[at] = QueryError(lines[at], None, code, words)
+    except (IndexError, ValueError):
+        raise Disconnected(f"no reply of a service: {text[:100]!r}") from None
     return replies
 
 
@@ -60,26 +64,31 @@ MARKER = b"find all first 0\n"
 """A line that is always answered, by one line: it ends lines of which the last may be skipped."""
 
 
-def single(text: bytes, line: str, number: int) -> Answers:
-    """The reply to one line that has this number. Raises its fault."""
-    reply = cut(text, [line], number)[0]
+def answers_of(reply: Reply) -> Answers:
+    """The reply to a line that isn't blank. Raises its fault."""
     if isinstance(reply, QueryError):
         raise reply
-    assert reply is not None  # the line isn't blank
+    assert reply is not None
     return reply
+
+
+def bytes_of(lines: Any) -> bytes:
+    """The bytes of query lines: a copy, if they could change meanwhile."""
+    if isinstance(lines, str):
+        raise TypeError("lines are bytes, and not a str: encode it")
+    return lines if isinstance(lines, bytes) else bytes(memoryview(lines))
 
 
 def ended(lines: bytes) -> bytes:
     """Lines of which the last one ends with a line feed too."""
-    if isinstance(lines, str):
-        raise TypeError("lines are bytes, and not a str: encode it")
-    return lines if not lines or lines.endswith(b"\n") else lines + b"\n"
+    whole = bytes_of(lines)
+    return whole if not whole or whole.endswith(b"\n") else whole + b"\n"
 
 
-def renumbered(text: bytes, before: int) -> bytes:
-    """Replies whose lines are numbered from 1, in place of from behind so many; that to the marker is dropped."""
+def renumbered(text: bytes, first: int) -> bytes:
+    """Replies whose lines are numbered from 1, in place of from another number; that to the marker is dropped."""
     text = text[: text.rstrip(b"\n").rfind(b"\n") + 1]
-    return LAST_LINE.sub(lambda found: b"%b %d %b\n" % (found[1], int(found[2]) - before, found[3]), text)
+    return LAST_LINE.sub(lambda found: b"%b %d %b\n" % (found[1], int(found[2]) - first + 1, found[3]), text)
 
 
 def is_whole(text: bytes | bytearray, last: int) -> bool:

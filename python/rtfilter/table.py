@@ -2,22 +2,23 @@
 
 import os
 from array import array
-from collections.abc import Iterable
-from types import TracebackType
+from collections.abc import Iterable, Iterator
+from contextlib import contextmanager
+from itertools import islice
 from typing import TYPE_CHECKING, Any, NoReturn, Self
 
 from . import _engine
 from .calls import BulkCalls, Closable
 from .errors import FIELD_COUNT, FLOATS, OUT_OF_RANGE, REPEATED, TOO_MANY, QueryError, TableError
-from .regions import CLASSES
-from .replies import Reply, cut, joined, listed
+from .regions import ORDERS, REGIONS, layer_bits
+from .replies import Reply, bytes_of, cut, joined, listed
 
 if TYPE_CHECKING:
     from numpy.typing import NDArray
 
     from .arrays import Columns, Queries
 
-_engine.know(CLASSES, TableError, QueryError)
+_engine.know(REGIONS + ORDERS, TableError, QueryError, layer_bits)
 
 FIELDS = ("id", "min_x", "max_x", "min_y", "max_y", "layer")
 FORMATS = ("i8", "i4", "i4", "i4", "i4", "u1")  # as numpy names them
@@ -66,7 +67,7 @@ class Rtfilter(_engine.Table, Closable, BulkCalls):
     @classmethod
     def _open_named(cls, name: "str | bytes | os.PathLike[str]", header: bool, fanout: int, max_entries: int) -> Self:
         try:
-            return cls._open_file(name, header, fanout, max_entries)
+            return cls._open_file(os.fspath(name), header, fanout, max_entries)
         except TableError as error:
             error.file = os.fsdecode(name)
             raise
@@ -95,8 +96,8 @@ class Rtfilter(_engine.Table, Closable, BulkCalls):
     @classmethod
     def _open_rows(cls, rows: Iterable[Any], fanout: int, max_entries: int) -> Self:
         columns = [array(code) for code in CODES]
-        for record, row in enumerate(rows, 1):
-            if not isinstance(row, Iterable):
+        for record, row in enumerate(islice(rows, MOST_ENTRIES + 1), 1):  # (one too many is enough)
+            if not isinstance(row, Iterable) or isinstance(row, (str, bytes)):
                 raise TypeError(f"row {record - 1}: {row!r:.50} isn't a row of {', '.join(FIELDS[:5])}")
             fields = tuple(row)
             if len(fields) not in (5, 6):
@@ -131,9 +132,7 @@ class Rtfilter(_engine.Table, Closable, BulkCalls):
 
     def text(self, lines: bytes) -> bytes:
         """What the program writes for the bytes of query lines. The call runs to its end, whatever signals come."""
-        if isinstance(lines, str):
-            raise TypeError("lines are bytes, and not a str: encode it")
-        return self._text(lines)
+        return self._text(bytes_of(lines))
 
     def replies(self, lines: Iterable[str]) -> list[Reply]:
         """The replies to query lines: Answers, a QueryError for a faulty line, None for a blank one and a comment."""
@@ -165,18 +164,14 @@ class Rtfilter(_engine.Table, Closable, BulkCalls):
         return *numbers, None if scores is None else arrays.scores_of(scores, count)
 
 
-class _named:
+@contextmanager
+def _named(queries: "Queries") -> Iterator[None]:
     """Gives a QueryError of the extension the region at its place."""
-
-    def __init__(self, queries: "Queries") -> None:
-        self._queries = queries
-
-    def __enter__(self) -> None:
-        pass
-
-    def __exit__(self, kind: type[BaseException] | None, error: BaseException | None, trace: TracebackType | None) -> None:
-        if isinstance(error, QueryError) and error.place is not None:
-            raise QueryError(self._queries.at(error.place), error.place, error.code, error.text) from None
+    try:
+        yield
+    except QueryError as error:
+        assert error.place is not None
+        raise QueryError(queries.at(error.place), error.place, error.code, error.text) from None
 
 
 def _column(values: Any, what: str, count: int) -> "NDArray[Any]":

@@ -98,7 +98,10 @@ class Tables(SingleCalls, BulkCalls):
 
     def _overlapping(self, region: Region) -> list[Member]:
         """The members that may have an answer, or one that refuses a region that is none."""
-        return [it for it in self._bounded if it[1] is not None and _may_answer(region, *it[1])] or self._bounded[:1]
+        try:
+            return [it for it in self._bounded if it[1] is not None and _may_answer(region, *it[1])] or self._bounded[:1]
+        except TypeError:
+            return self._bounded[:1]
 
     def _tables(self, call: str) -> list[Rtfilter]:
         tables = [it for it in self._members if isinstance(it, Rtfilter)]
@@ -144,23 +147,19 @@ def _ordered(
 
 def _by_distance(members: list[Member], x: int, y: int, first: int, find: Callable[[Any], Any]) -> list[Pair]:
     """The first answers by distance from a point. A table that is farther away than the last of them isn't queried."""
-    x, y = _own(x), _own(y)
-    near = sorted(((_square(x, y, *bounds) if bounds else 0, at) for at, (_, bounds) in enumerate(members)))
     pairs: list[Pair] = []
+    try:
+        x, y, first = index(x), index(y), index(first)  # (whose products don't overflow as those of numpy)
+    except TypeError:
+        pairs = find(members[0][0])  # which refuses what isn't whole
+        return pairs
+    near = sorted(((_square(x, y, *bounds) if bounds else 0, at) for at, (_, bounds) in enumerate(members)))
     for distance, at in near:
         if pairs and len(pairs) >= first and distance > pairs[-1][1]:
             break
         found = find(members[at][0])
         pairs = sorted(chain(pairs, found), key=itemgetter(1, 0))[:first] if pairs else found
     return pairs
-
-
-def _own(number: Any) -> Any:
-    """A whole number as one of Python, whose products don't overflow as those of numpy. What is none stays, for a table to refuse."""
-    try:
-        return index(number)
-    except TypeError:
-        return number
 
 
 def _square(x: int, y: int, min_x: int, min_y: int, max_x: int, max_y: int) -> int:
@@ -170,13 +169,13 @@ def _square(x: int, y: int, min_x: int, min_y: int, max_x: int, max_y: int) -> i
 
 
 def _may_answer(region: Region, min_x: int, min_y: int, max_x: int, max_y: int) -> bool:
-    """Whether a box within bounds may be an answer. Of what is no region the table says so."""
+    """Whether a box within bounds may be an answer. Raises TypeError for some of what a table refuses."""
     if isinstance(region, (Window, Inside)):
         return region[0] <= max_x and region[1] >= min_x and region[2] <= max_y and region[3] >= min_y
     if isinstance(region, Covers):
         return region[0] >= min_x and region[1] <= max_x and region[2] >= min_y and region[3] <= max_y
     if isinstance(region, Circle):
-        x, y, radius = map(_own, region)
+        x, y, radius = map(index, region)
         return bool(_square(x, y, min_x, min_y, max_x, max_y) <= radius * radius)
     if isinstance(region, Polygon) and region.vertices:
         xs, ys = zip(*region.vertices)

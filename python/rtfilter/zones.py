@@ -7,7 +7,7 @@ from typing import Any
 import numpy
 from numpy.typing import NDArray
 
-from . import _engine
+from . import _engine, arrays
 from .regions import Covers
 from .table import Rtfilter
 
@@ -34,7 +34,7 @@ class Zones:
         self._len = 0
         for place, polygon in enumerate(_listed(polygons)):
             try:
-                for part in _parts(polygon):
+                for part in filter(len, _parts(polygon)):  # (an empty polygon has no rings)
                     for ring in part:
                         corners.append(self._ring(ring))
                         rings.append(rings[-1] + len(corners[-1]))
@@ -67,7 +67,7 @@ class Zones:
 
     def holding_each(self, points: Any) -> tuple[NDArray[Any], NDArray[Any]]:
         """Return two arrays with a pair for each answer: the position of the point, a row of x and y, and that of the polygon."""
-        array = numpy.asarray(points)
+        array = arrays.floats_of(points, "points", arrays.POINT)
         if array.shape != (0,) and (array.ndim != 2 or array.shape[1] != 2):
             raise TypeError(f"points: the shape is {array.shape}, and not (n, 2)")
         whole = self._whole(array.reshape(-1, 2))
@@ -93,7 +93,7 @@ class Zones:
     def _ring(self, positions: Any) -> NDArray[Any]:
         """A ring in whole numbers."""
         try:
-            array = numpy.array([it[:2] for it in positions], "f8")
+            array = arrays.floats_of([(x, y) for x, y, *_ in positions], "positions", arrays.POINT)
         except (TypeError, ValueError):
             raise ValueError("a position isn't a pair of numbers") from None
         if len(array) < FEWEST:
@@ -102,9 +102,9 @@ class Zones:
             raise ValueError("a ring whose last position isn't its first")
         return self._whole(array)
 
-    def _whole(self, numbers: NDArray[Any]) -> NDArray[Any]:
+    def _whole(self, numbers: NDArray[numpy.float64]) -> NDArray[Any]:
         """Coordinates in whole numbers of 32 bits."""
-        floats = numbers.astype("f8") * (self._scale or 1.0)
+        floats = numbers * (self._scale or 1.0)
         if not numpy.isfinite(floats).all():
             raise ValueError("a coordinate that isn't finite")
         whole = numpy.floor(floats)

@@ -1,11 +1,13 @@
 """What the tests share: the program, a service over it, random tables."""
 
+import asyncio
 import contextlib
 import random
 import subprocess
 import tempfile
 from collections.abc import Callable, Iterator
 from pathlib import Path
+from typing import Any, Self
 
 import pytest
 import random_runs
@@ -13,11 +15,12 @@ import reading
 from served import Served
 from support import PROGRAM as PROGRAM, ROOT
 
-from rtfilter import Client, Rtfilter
+from rtfilter import Client, Rtfilter, aio
 
 Run = Callable[[Path, bytes], bytes]
 Serve = Callable[..., Served]
 Random = Callable[[random.Random], bytes]
+Connect = Callable[..., Any]
 
 
 @pytest.fixture
@@ -73,7 +76,35 @@ def serve(tmp_path: Path) -> Iterator[Serve]:
         yield lambda table, *options: stack.enter_context(Served(tempfile.mkdtemp(dir=tmp_path), table, *options))
 
 
+class Awaited:
+    """The client of asyncio, whose calls are waited for."""
+
+    def __init__(self, address: Any, timeout: float | None = None) -> None:
+        self._client, self._runner = aio.Client(address, timeout), asyncio.Runner()
+
+    def __getattr__(self, name: str) -> Any:
+        call = getattr(self._client, name)
+        return lambda *given, **named: self._runner.run(call(*given, **named))
+
+    def __len__(self) -> int:
+        return int(self.size())
+
+    def __enter__(self) -> Self:
+        return self
+
+    def __exit__(self, *_: Any) -> None:
+        self.close()
+        self._runner.close()
+
+
+@pytest.fixture(params=[Client, Awaited], ids=["threads", "asyncio"])
+def connect(request: Any) -> Connect:
+    """Makes a client of either kind."""
+    kind: Connect = request.param
+    return kind
+
+
 @pytest.fixture
-def client(serve: Serve, data: Path) -> Iterator[Client]:
-    with Client(serve(data / "boxes.csv").path, timeout=20) as client:
+def client(connect: Connect, serve: Serve, data: Path) -> Iterator[Client]:
+    with connect(serve(data / "boxes.csv").path, timeout=20) as client:
         yield client

@@ -57,6 +57,9 @@ def many(table: Rtfilter) -> list[str]:
     others = [
         lambda: table._find_each(b"x", 0, 0, places, ids, None, 0),
         lambda: table._find_each(queries, 0, 201, b"", ids, None, 0),  # type: ignore[arg-type]
+        lambda: table._find_each(window, -1, 200, places, ids, None, 0, boxes, windows),
+        lambda: table._find_each(window, 0, 200, places, ids, None, -1),
+        lambda: table._find_each(window, 0, 200, places, ids, 5, 0),  # type: ignore[arg-type]
         lambda: table._count_each(bad * 70, 0),
         lambda: table._count_each(queries, 0),
         lambda: _engine.query_of(Polygon, None, None, None),

@@ -85,6 +85,28 @@ def test_valgrind(table: Path, expected: str) -> None:
     assert exercised(words, PACKAGE, table, PYTHONMALLOC="malloc") == expected
 
 
+INTERPRETERS = """
+import _xxsubinterpreters
+from rtfilter import Rtfilter, Window
+
+table = Rtfilter([(1, 0, 1, 0, 1)])
+_xxsubinterpreters.run_string(_xxsubinterpreters.create(), '''
+try:
+    import rtfilter
+except ImportError as error:
+    print(error)
+''')
+print(table.find(Window(0, 1, 0, 1)))
+"""
+
+
+def test_another_interpreter_of_the_process() -> None:
+    """Classes of regions belong to one of them, and what it has goes on."""
+    words = [sys.executable, "-c", INTERPRETERS]
+    done = subprocess.run(words, cwd=PACKAGE.parent, capture_output=True, text=True)
+    assert (done.returncode, done.stdout) == (0, "another interpreter of this process has imported rtfilter\n[1]\n"), done.stderr
+
+
 OLD_PROCESSOR = f"""
 #include <cpuid.h>
 static int no_cpuid(unsigned leaf, unsigned *a, unsigned *b, unsigned *c, unsigned *d)

@@ -1,22 +1,27 @@
 """A service over its socket: its ends, its silence, its absence."""
 
 import asyncio
+import math
 import os
 import pickle
 import random
+import resource
 import signal
 import socket
 import threading
 import time
 from collections.abc import Callable, Iterator
-from contextlib import suppress
+from contextlib import ExitStack, suppress
 from pathlib import Path
 from typing import Any
 
+import numpy
 import pytest
-from conftest import Serve
+from conftest import Connect, Serve
 
-from rtfilter import All, Client, Disconnected, QueryError, Rtfilter, RtfilterError, TimedOut, Window, aio
+from rtfilter import All, Client, Disconnected, QueryError, Rtfilter, RtfilterError, Tables, TimedOut, Window, aio
+
+REASON = b"rtfilter-serve: silent for 600 seconds\n"
 
 
 class Fake:
@@ -38,7 +43,7 @@ class Fake:
                 connection, _ = self._socket.accept()
             except OSError:
                 return
-            with connection:
+            with connection, suppress(ConnectionError):
                 self.acts.pop(0)(connection)
             self.closed.set()
 
@@ -100,6 +105,22 @@ def own_alarms() -> Iterator[None]:
     signal.signal(signal.SIGALRM, before)
 
 
+@pytest.fixture(params=["unix", "tcp"])
+def full(tmp_path: Path, request: Any) -> Iterator[Any]:
+    """Where nobody takes connections, and as many wait as may."""
+    family, address = {"unix": (socket.AF_UNIX, str(tmp_path / "full")), "tcp": (socket.AF_INET, ("127.0.0.1", 0))}[request.param]
+    with ExitStack() as stack:
+        listening = stack.enter_context(socket.socket(family))
+        listening.bind(address)
+        listening.listen(0)
+        for _ in range(4):
+            waiting = stack.enter_context(socket.socket(family))
+            waiting.setblocking(False)
+            with suppress(BlockingIOError):
+                waiting.connect(listening.getsockname())
+        yield listening.getsockname()
+
+
 def in_time(client: Client) -> int:
     """A count by a client with a short time: the first that has its reply in time."""
     for _ in range(100):
@@ -108,72 +129,113 @@ def in_time(client: Client) -> int:
     raise AssertionError("no reply in time")
 
 
+class OwnWindow(Window):
+    """A class of a user, which is no region of the package."""
+
+
 def test_calls(client: Client, boxes: Rtfilter) -> None:
     assert len(client) == 5 and client.levels() == boxes.levels() and bool(client)
     assert client.find(Window(0, 10, 0, 10)) == [1, 2] and client.find(All(), scores=True, first=1) == [(1, 0)]
     with pytest.raises(QueryError) as raised:
         client.find(Window(5, 1, 0, 1))
     assert (raised.value.query, raised.value.code) == ("find window 5 1 0 1", "Q7")
-    for bad, error in ((0.5, TypeError), ("x", TypeError)):
+    refused: list[tuple[Callable[[], Any], type[Exception]]] = [
+        *((lambda it=it: client.find(Window(0, it, 0, 1)), TypeError) for it in (0.5, "x")),
+        *((lambda it=it: client.count(All(), on=it), TypeError) for it in (True, "3", 1.5, numpy.bool_(True))),
+        *((lambda it=it: client.count(All(), on=it), ValueError) for it in ([], 64)),
+        *((lambda it=it: client.text(it), TypeError) for it in ("count all", 5, None)),
+        (lambda: client.find(All(), All()), TypeError),  # type: ignore[arg-type]
+        (lambda: client.find(OwnWindow(0, 1, 0, 1)), TypeError),
+    ]
+    for call, error in refused:
         with pytest.raises(error):
-            client.find(Window(0, bad, 0, 1))  # type: ignore[arg-type]
-    for on, error in (([], ValueError), (64, ValueError), (True, TypeError), ("3", TypeError), (1.5, TypeError)):
-        with pytest.raises(error):
-            client.count(All(), on=on)  # type: ignore[arg-type]
-    with pytest.raises(TypeError):
-        client.find(All(), All())  # type: ignore[arg-type]
-    with pytest.raises(TypeError, match="a client can't be pickled"):
-        pickle.dumps(client)
+            call()
 
 
-def test_tcp(data: Path, serve: Serve) -> None:
-    with Client(serve(data / "boxes.csv", "--tcp", "0").tcp, timeout=20) as client:
+def test_tcp(connect: Connect, data: Path, serve: Serve) -> None:
+    with connect(serve(data / "boxes.csv", "--tcp", "0").tcp, timeout=20) as client:
         assert client.count(All()) == 5
 
 
 def test_long_texts_go_both_ways(client: Client, boxes: Rtfilter) -> None:
     text = b"find all\n" * 60_000
-    assert client.text(text) == boxes.text(text)
+    assert client.text(text) == boxes.text(text) == client.text(memoryview(text))
 
 
 @pytest.mark.parametrize("address", [5, None, ("localhost",), b"boxes.socket"])
-def test_no_address(address: Any) -> None:
-    for kind in (Client, aio.Client):
-        with pytest.raises(TypeError, match=r"^an address is the path of a socket or \(host, port\), and not "):
-            kind(address)
+def test_no_address(connect: Connect, address: Any) -> None:
+    with pytest.raises(TypeError, match=r"^an address is the path of a socket or \(host, port\), and not "):
+        connect(address)
 
 
-def test_no_service(tmp_path: Path) -> None:
+def test_no_service(connect: Connect, tmp_path: Path) -> None:
+    def count(address: Any) -> None:
+        with connect(address) as client:
+            client.count(All())
+
     with pytest.raises(FileNotFoundError) as raised:
-        Client(tmp_path / "none")
+        count(tmp_path / "none")
     assert raised.value.filename == str(tmp_path / "none")
     with pytest.raises(OSError, match="^AF_UNIX path too long$"):
-        Client(tmp_path / ("x" * 200))
+        count(tmp_path / ("x" * 200))
     with socket.socket(socket.AF_UNIX) as stale:
         stale.bind(str(tmp_path / "stale"))
         with pytest.raises(ConnectionRefusedError):
-            Client(tmp_path / "stale")
+            count(tmp_path / "stale")
     with socket.socket() as free:
         free.bind(("127.0.0.1", 0))
         with pytest.raises(ConnectionRefusedError):
-            Client(free.getsockname())
-
-    async def ask() -> None:
-        async with aio.Client(tmp_path / "none") as client:
-            await client.count(All())
-
-    with pytest.raises(FileNotFoundError) as raised:
-        asyncio.run(ask())
-    assert raised.value.filename == str(tmp_path / "none")
+            count(free.getsockname())
 
 
-REASON = b"rtfilter-serve: silent for 600 seconds\n"
+def test_a_service_that_takes_no_connections(connect: Connect, full: Any, monkeypatch: pytest.MonkeyPatch) -> None:
+    """A host may have several addresses: one deadline holds for all of them."""
+    real = socket.getaddrinfo
+    monkeypatch.setattr(socket, "getaddrinfo", lambda *given, **named: real(*given, **named) * 3)
+    begun = time.monotonic()
+    with pytest.raises(TimedOut, match="0.3 seconds|in time"), connect(full, timeout=0.3) as client:
+        client.count(All())
+    assert 0.2 < time.monotonic() - begun < 0.8
+
+
+def test_a_host_with_several_addresses(connect: Connect, monkeypatch: pytest.MonkeyPatch, data: Path, serve: Serve) -> None:
+    """The next one is tried where there is no service."""
+    host, port = serve(data / "boxes.csv", "--tcp", "0").tcp
+    with socket.socket() as free:
+        free.bind((host, 0))
+        places = [(socket.AF_INET, socket.SOCK_STREAM, 0, "", it) for it in (free.getsockname(), (host, port))]
+        monkeypatch.setattr(socket, "getaddrinfo", lambda *_, **__: places)
+        with connect(("several", port), timeout=20) as client:
+            assert client.count(All()) == 5
+
+
+@pytest.mark.parametrize("timeout", [1e7, 1e12, math.inf])
+def test_long_timeouts(connect: Connect, fake: Fake, timeout: float) -> None:
+    fake.acts = [answer]
+    with connect(fake.path, timeout=timeout) as client:
+        assert client.count(All()) == 7
+
+
+def test_more_files_than_select_takes(fake: Fake) -> None:
+    before = resource.getrlimit(resource.RLIMIT_NOFILE)
+    resource.setrlimit(resource.RLIMIT_NOFILE, (min(2000, before[1]), before[1]))
+    files: list[int] = []
+    try:
+        while not files or files[-1] < 1024:
+            files.append(os.open("/dev/null", os.O_RDONLY))
+        fake.acts = [answer]
+        with Client(fake.path, timeout=20) as client:
+            assert [client.count(All()), client.count(All())] == [7, 7]
+    finally:
+        for it in files:
+            os.close(it)
+        resource.setrlimit(resource.RLIMIT_NOFILE, before)
 
 
 @pytest.mark.parametrize("text, why", [(b"", ""), (b"1 0\n", ""), (REASON, ": silent for 600 seconds")])
-def test_a_service_that_closes(fake: Fake, text: bytes, why: str) -> None:
+def test_a_service_that_closes(connect: Connect, fake: Fake, text: bytes, why: str) -> None:
     fake.acts = [say(text), answer]
-    with Client(fake.path, timeout=20) as client:
+    with connect(fake.path, timeout=20) as client:
         with pytest.raises(Disconnected) as raised:
             client.find(All())
         assert str(raised.value) == f"the service at {fake.path} closed the connection{why}"
@@ -181,17 +243,50 @@ def test_a_service_that_closes(fake: Fake, text: bytes, why: str) -> None:
         assert client.count(All()) == 7
 
 
-def test_a_service_that_closed_between_two_calls(fake: Fake) -> None:
-    fake.acts = [lambda it: it.sendall(b"ok 1 7\n" + 0 * it.recv(100)), answer]
-    with Client(fake.path, timeout=20) as client:
+@pytest.mark.parametrize("text", [b"", REASON])
+def test_a_service_that_closed_between_two_calls(connect: Connect, fake: Fake, text: bytes) -> None:
+    """And perhaps said why."""
+    asked = threading.Event()
+
+    def act(connection: socket.socket) -> None:
+        say(b"ok 1 7\n")(connection)
+        asked.wait(20)
+        connection.sendall(text)
+
+    fake.acts = [act, answer]
+    with connect(fake.path, timeout=20) as client:
         assert client.count(All()) == 7
+        asked.set()
         assert fake.closed.wait(20)
         assert client.count(All()) == 7
 
 
-def test_a_silent_service(fake: Fake) -> None:
+@pytest.mark.parametrize("text", [b"x\nok 1 7\n", b"ok 1 x\n", b"ok 9 7\nok 1 7\n", b"error 1 Q4 \xff\n", b"1.5 0\nok 1 1\n", b"ok 1 7 8\n"])
+def test_what_is_no_reply(connect: Connect, fake: Fake, text: bytes) -> None:
+    """Nothing more is read from such a connection."""
+    fake.acts = [say(text), answer]
+    with connect(fake.path, timeout=20) as client:
+        with pytest.raises(Disconnected, match="no reply of a service: b"):
+            client.find(All())
+        assert client.count(All()) == 7
+
+
+def test_a_reply_byte_by_byte(connect: Connect, fake: Fake) -> None:
+    def act(connection: socket.socket) -> None:
+        connection.recv(1000)
+        for byte in b"12 0\n-3 18446744073709551616\nok 1 2\n":
+            connection.sendall(bytes([byte]))
+            time.sleep(0.001)
+        fake.be_silent(connection)
+
+    fake.acts = [act]
+    with connect(fake.path, timeout=20) as client:
+        assert client.nearest(2, 0, 0) == [(12, 0), (-3, 2**64)]
+
+
+def test_a_silent_service(connect: Connect, fake: Fake) -> None:
     fake.acts = [fake.be_silent, *[answer] * 100]
-    with Client(fake.path, timeout=0.3) as client:
+    with connect(fake.path, timeout=0.3) as client:
         begun = time.monotonic()
         with pytest.raises(TimedOut, match="no reply in 0.3 seconds") as raised:
             client.find(All())
@@ -217,6 +312,15 @@ def test_one_deadline_holds_for_the_turn_too(fake: Fake) -> None:
         it.join()
     assert len(raised) == 8 and max(raised) < 2
     client.close()
+
+
+def test_a_member_of_tables_that_drops(fake: Fake) -> None:
+    """The call has no answers of the other members alone, and the next one is whole."""
+    fake.acts = [say(b"ok 1"), answer]
+    with Tables([Rtfilter([(1, 0, 1, 0, 1)]), Client(fake.path, timeout=20)]) as tables:
+        with pytest.raises(Disconnected):
+            tables.count(All())
+        assert tables.count(All()) == 8
 
 
 @pytest.mark.usefixtures("own_alarms")
@@ -285,7 +389,6 @@ def test_a_child_of_a_fork(client: Client) -> None:
         try:
             client.count(All())
         except RuntimeError:
-            client.close()
             status = 0
         finally:
             os._exit(status)
@@ -301,26 +404,55 @@ def test_closed(client: Client) -> None:
             call()
 
 
-def test_asyncio(fake: Fake) -> None:
-    fake.acts = [fake.be_silent, say(REASON), fake.be_silent, answer]
+def test_not_pickled(serve: Serve, data: Path) -> None:
+    with Client(serve(data / "boxes.csv").path) as client, pytest.raises(TypeError, match="a client can't be pickled"):
+        pickle.dumps(client)
+
+
+def test_asyncio_calls_that_are_cancelled_anywhere(serve: Serve, data: Path) -> None:
+    """Others go on, by turns, and get their own replies."""
+    chance = random.Random(2)
+
+    async def ask(path: str) -> int:
+        cancelled = 0
+        async with aio.Client(path, timeout=20) as client:
+            for _ in range(300):
+                tasks = [asyncio.create_task(client.nearest(1 + at % 5, 0, 0)) for at in range(4)]
+                for _ in range(chance.randrange(12)):
+                    await asyncio.sleep(0)
+                chance.choice(tasks).cancel()
+                for at, found in enumerate(await asyncio.gather(*tasks, return_exceptions=True)):
+                    if isinstance(found, asyncio.CancelledError):
+                        cancelled += 1
+                    else:
+                        assert not isinstance(found, BaseException) and len(found) == 1 + at % 5
+            assert await client.size() == 5
+        return cancelled
+
+    assert asyncio.run(ask(serve(data / "boxes.csv", "--connections", "9000").path)) > 100
+
+
+def test_a_close_while_asyncio_connects(fake: Fake, monkeypatch: pytest.MonkeyPatch) -> None:
+    """It leaves no connection open."""
+    fake.acts = [fake.be_silent]
 
     async def ask() -> None:
-        async with aio.Client(fake.path, timeout=0.3) as client:
-            with pytest.raises(TimedOut, match="no reply in 0.3 seconds"):
-                await client.find(All())
-        async with aio.Client(fake.path, timeout=20) as client:
-            with pytest.raises(Disconnected, match="silent for 600 seconds"):
-                await client.find(All())
-            fake.received.clear()
-            task = asyncio.create_task(client.find(All()))
-            await asyncio.to_thread(fake.received.wait, 20)
-            task.cancel()
-            with pytest.raises(asyncio.CancelledError):
-                await task
-            assert await client.count(All()) == await client.size() == 7
-            await client.close()
-            with pytest.raises(ValueError, match="the client was closed"):
-                await client.find(All())
+        reached, go_on, real = asyncio.Event(), asyncio.Event(), aio._opened
+
+        async def opened(address: Any) -> Any:
+            reached.set()
+            await go_on.wait()
+            return await real(address)
+
+        monkeypatch.setattr(aio, "_opened", opened)
+        client = aio.Client(fake.path, timeout=20)
+        task = asyncio.create_task(client.count(All()))
+        await reached.wait()
+        await client.close()
+        go_on.set()
+        with pytest.raises(Disconnected):
+            await task
+        assert await asyncio.to_thread(fake.closed.wait, 20)
 
     asyncio.run(ask())
 

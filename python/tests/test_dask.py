@@ -186,6 +186,21 @@ def test_what_is_refused(tmp_path: Path) -> None:
             tables.query(frame, **options)
     with pytest.raises(TypeError):
         tables.nearest(turned, 3)
+    frame, points = dataframe.from_pandas(boxes, npartitions=2), dataframe.from_pandas(pandas.DataFrame({"x": [1]}), npartitions=1)
+    wrong: list[tuple[Any, type[Exception], str]] = [
+        (lambda: Boxes(boxes), TypeError, "frame is a dask dataframe, and not DataFrame"),
+        (lambda: tables.query(boxes), TypeError, "frame is a dask dataframe, and not DataFrame"),
+        (lambda: tables.count(boxes), TypeError, "frame is a dask dataframe, and not DataFrame"),
+        (lambda: tables.nearest(points, 3), TypeError, "points: there is no column y among x"),
+        (lambda: Boxes(frame.drop(columns="id")), TypeError, "frame: there is no column id among min_x"),
+        (lambda: Boxes(frame.drop(columns="max_y")), TypeError, "frame: there is no column max_y among min_x"),
+        (lambda: spatial_shuffle(frame.drop(columns="min_x"), 2), TypeError, "frame: there is no column min_x among max_x"),
+        (lambda: spatial_shuffle(frame, 0), ValueError, "partitions are 1 or more, and not 0"),
+        (lambda: tables.join(turned.assign(min_x_right=7)), ValueError, "two columns are called min_x_right"),
+    ]
+    for call, error, words in wrong:
+        with pytest.raises(error, match=words):
+            call()
     part = WholePart(boxes)
     again = pickle.loads(pickle.dumps(part))
     assert again.frame.equals(part.frame) and again.bounds == part.bounds and size_of(part) > 36 * 20

@@ -65,6 +65,27 @@ def test_decimals_are_compared_exactly(pool: int) -> None:
     assert pairs > 1000
 
 
+def test_bounds_by_their_names() -> None:
+    frame = pandas.DataFrame({"minX": [0.5, 5], "max_x": [1.5, 6], "min_y": [2.5, 7], "max_y": [3.5, 8], "name": ["a", "b"]})
+    fields = numpy.array([(0.5, 2.5, 1.5, 3.5)], [("min_x", "f4"), ("min_y", "f8"), ("max_x", "f8"), ("max_y", "f8")])[["max_y", "min_x", "max_x", "min_y"]]
+    for given, bounds in ((frame, (0.5, 2.5, 6, 8)), (fields, (0.5, 2.5, 1.5, 3.5))):
+        tree = STRtree.from_bounds(given)
+        assert tree.bounds == bounds and tree.query_bounds(given)[:, 0].tolist() == [0, 0]
+    masked = numpy.ma.array([(0.0, 0.0, 1.0, 1.0)], mask=[[False, False, True, False]])
+    refused: list[tuple[Any, str]] = [
+        (frame.drop(columns="max_y"), "bounds: there is no column max_y among minX"),
+        (frame.assign(min_x=1), "bounds: the columns minX and min_x are both min_x"),
+        (masked, "bounds: a number is masked"),
+        ([("0", "0", "1", "1")], "bounds: numbers are <U1"),
+        ([(0, 0, 1, 1), (0, 0, 1)], "bounds: rows of different lengths"),
+    ]
+    for wrong, words in refused:
+        for call in (STRtree.from_bounds, STRtree([]).query_bounds):
+            with pytest.raises(TypeError) as raised:
+                call(wrong)
+            assert words in str(raised.value)
+
+
 def test_bounds_that_their_caller_changes() -> None:
     bounds = numpy.array([(0.0, 0.0, 1.5, 1.5), (5.0, 5.0, 6.0, 6.0)])
     tree = STRtree.from_bounds(bounds)
@@ -93,11 +114,21 @@ def some_geometries(chance: random.Random, count: int) -> list[Any]:
     return [one() for _ in range(count)]
 
 
+FRAME = geopandas.GeoDataFrame(geometry=[Point(0, 0)])
+
+
 def is_there(it: Any) -> bool:
     return it is not None and not it.is_empty
 
 
-@pytest.mark.parametrize("predicate", sorted(MIRRORED))
+def holds(predicate: str, one: Any, other: Any) -> bool:
+    """A predicate by shapely 1.8, which lacks two."""
+    if predicate == "contains_properly":
+        return bool(one.relate_pattern(other, "T**FF*FF*"))
+    return bool(other.covers(one) if predicate == "covered_by" else getattr(one, predicate)(other))
+
+
+@pytest.mark.parametrize("predicate", [*sorted(MIRRORED), "contains_properly"])
 def test_predicates_are_those_of_shapely(predicate: str) -> None:
     chance, pairs = random.Random(predicate), 0
     for _ in range(15):
@@ -107,7 +138,7 @@ def test_predicates_are_those_of_shapely(predicate: str) -> None:
             (at, place)
             for at, one in enumerate(inputs)
             for place, it in enumerate(held)
-            if is_there(one) and is_there(it) and (it.covers(one) if predicate == "covered_by" else getattr(one, predicate)(it))
+            if is_there(one) and is_there(it) and holds(predicate, one, it)
         ]
         assert [*zip(*tree.query(inputs, predicate).tolist())] == expected
         assert tree.query(inputs[0], predicate).tolist() == [place for at, place in expected if at == 0]
@@ -167,7 +198,7 @@ def test_ways_in_and_out() -> None:
 @pytest.mark.parametrize(
     "call, words",
     [
-        (lambda it: it.query(Point(0, 0), "near"), "'near' is no predicate; there are contains, covered_by, covers, crosses, dwithin"),
+        (lambda it: it.query(Point(0, 0), "near"), "'near' is no predicate; there are contains, contains_properly, covered_by, covers,"),
         (lambda it: it.query(Point(0, 0), "dwithin"), "a distance goes with the predicate dwithin"),
         (lambda it: it.query(Point(0, 0), distance=3), "a distance goes with the predicate dwithin"),
         (lambda it: it.query_nearest(Point(0, 0), max_distance=0), "max_distance is above 0"),
@@ -175,7 +206,7 @@ def test_ways_in_and_out() -> None:
         (lambda it: STRtree.from_bounds([(0, 0, 1, 1), (0, -numpy.inf, 1, 1)]), "bounds: infinite bounds at place 1"),
         (lambda it: STRtree.from_bounds([(0, 0, 1, 1), (0, 2, 1, 1)]), "bounds: a minimum above its maximum at place 1"),
         (lambda it: STRtree.from_bounds([(0, 0, 1, 1)]).query_nearest(Point(0, 0)), "has no geometries"),
-        (lambda it: sjoin(None, None, how="outer"), "how is inner, left or right, and not 'outer'"),
+        (lambda it: sjoin(FRAME, FRAME, how="outer"), "how is inner, left or right, and not 'outer'"),
     ],
 )
 def test_refused(call: Any, words: str) -> None:
@@ -202,13 +233,17 @@ def test_joins_are_those_of_geopandas(how: str, predicate: str) -> None:
         (levels, levels[:30]),
     ]
     for index, other in indexes:
-        left = geopandas.GeoDataFrame({"n": range(40), "a": 1.5}, geometry=some_geometries(chance, 40), index=index)
-        right = geopandas.GeoDataFrame({"n": range(30), "b": "x"}, geometry=some_geometries(chance, 30), index=other)
+        columns = {"n": range(40), "a": 1.5, "n_right": 7, "kind": pandas.Categorical(["p", "q"] * 20)}
+        left = geopandas.GeoDataFrame(columns, geometry=some_geometries(chance, 40), index=index)
+        columns = {"n": range(30), "b": "x", "some": pandas.array([1, None] * 15, "Int64"), "sort": pandas.Categorical(["r", "s", "t"] * 10)}
+        right = geopandas.GeoDataFrame(columns, geometry=some_geometries(chance, 30), index=other)
         with warnings.catch_warnings():
             warnings.simplefilter("ignore")
             expected = geopandas.sjoin(left, right, how=how, predicate=predicate)
         found = sjoin(left, right, how=how, predicate=predicate)
-        assert set(found) == set(expected) and type(found) is type(expected)
+        assert [*found.columns] == [*expected.columns] and type(found) is type(expected)
+        for one, other in zip(found.dtypes, expected.dtypes, strict=True):
+            assert one == other or how == "right" and {one.kind, other.kind} == {"i", "f"}  # (geopandas makes floats of a second n_right)
         assert listed(found) == listed(expected)
         assert found.geometry.name == expected.geometry.name
         pairs += len(found)
@@ -217,15 +252,30 @@ def test_joins_are_those_of_geopandas(how: str, predicate: str) -> None:
 
 def listed(frame: Any) -> list[str]:
     """The rows of a frame, in any order: pandas has None and NaN for what is missing."""
-    names = sorted(frame)
-    rows = zip(frame.index, *(frame[name] for name in names))
-    return sorted(" ".join("-" if it is None or it != it else str(it) for it in row) for row in rows)
+    rows = zip(frame.index, *(frame.iloc[:, at] for at in range(frame.shape[1])))
+    return sorted(" ".join("-" if it is None or it is pandas.NA or it != it else str(it) for it in row) for row in rows)
+
+
+def test_what_is_no_frame() -> None:
+    for left, right, words in ((FRAME.geometry, FRAME, "left is a GeoDataFrame, and not GeoSeries"), (FRAME, [], "right is a GeoDataFrame, and not list")):
+        with pytest.raises(TypeError, match=words):
+            sjoin(left, right)
 
 
 def test_frames_with_different_crs() -> None:
     left = geopandas.GeoDataFrame(geometry=[Point(0, 0)], crs=4326)
     with pytest.warns(UserWarning, match="different CRS"):
         assert len(sjoin(left, geopandas.GeoDataFrame(geometry=[Point(0, 0)], crs=3857))) == 1
+
+
+@pytest.mark.parametrize("predicate", ["touches", "crosses", "overlaps"])
+def test_geometries_that_shapely_refuses(predicate: str) -> None:
+    """Its own error says why."""
+    one, other = Polygon([(3, 2), (5, 4), (5, 2), (3, 4)]), Polygon([(4, 3), (6, 5), (6, 3), (4, 5)])
+    with pytest.raises(Exception, match="invalid") as expected:
+        getattr(one, predicate)(other)
+    with pytest.raises(expected.type, match="invalid"):
+        STRtree([one]).query(other, predicate)
 
 
 def test_the_calls_of_shapely_2(monkeypatch: pytest.MonkeyPatch) -> None:
@@ -238,19 +288,19 @@ def test_the_calls_of_shapely_2(monkeypatch: pytest.MonkeyPatch) -> None:
     def named(name: str) -> Any:
         def call(some: Any, others: Any) -> Any:
             assert some.dtype == others.dtype == object and some.shape == others.shape
-            if name == "covered_by":
-                return numpy.array([other.covers(one) for one, other in zip(some, others)], bool)
-            return numpy.array([getattr(one, name)(other) for one, other in zip(some, others)])
+            if name == "distance":
+                return numpy.array([one.distance(other) for one, other in zip(some, others)])
+            return numpy.array([holds(name, one, other) for one, other in zip(some, others)], bool)
 
         return call
 
     stand_in = SimpleNamespace(bounds=bounds, prepare=lambda it: prepared.append(len(it)), distance=named("distance"))
-    for name in MIRRORED:
+    for name in (*MIRRORED, "contains_properly"):
         setattr(stand_in, name, named(name))
     chance = random.Random(8)
     held, inputs = some_geometries(chance, 60), some_geometries(chance, 40)
     calls: list[Callable[[STRtree], Any]] = [lambda it: it.query(inputs), lambda it: it.query_nearest(inputs, return_distance=True)]
-    calls += [lambda it, name=name: it.query(inputs, name) for name in MIRRORED]  # type: ignore[misc]
+    calls += [lambda it, name=name: it.query(inputs, name) for name in (*MIRRORED, "contains_properly")]  # type: ignore[misc]
     calls += [lambda it: it.query(inputs, "dwithin", distance=1.5), lambda it: it.query_nearest(inputs, max_distance=1.0)]
     expected = [call(STRtree(held)) for call in calls]
     monkeypatch.setattr(geometry, "shapely", stand_in)
@@ -258,7 +308,7 @@ def test_the_calls_of_shapely_2(monkeypatch: pytest.MonkeyPatch) -> None:
     for call, it in zip(calls, expected):
         for one, other in zip(call(STRtree(held)), it, strict=True):
             assert numpy.array_equal(one, other)
-    assert len(prepared) == len(MIRRORED)
+    assert len(prepared) == len(MIRRORED) + 1
 
 
 def test_polygons_of_other_libraries_are_kept_as_they_are() -> None:

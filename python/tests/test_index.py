@@ -90,6 +90,8 @@ def test_as_rtree() -> None:
         (lambda: Index([(1, (0, 0, 1))]), TypeError),
         (lambda: Index([(1, 5)]), TypeError),
         (lambda: Index([(1.5, (0, 0, 1, 1))]), TypeError),
+        (lambda: Index([(2**63, (0, 0, 1, 1))]), ValueError),
+        (lambda: Index([(1, ("0", "0", "1", "1"))]), TypeError),
         (lambda: Index([(1, (0, 0))]).nearest((0, 0), 0), ValueError),
         (lambda: Index([(1, (0, 0))]).intersection((0, math.nan)), ValueError),
         (lambda: Index([(1, (0, 0))]).intersection((1, 0, 0, 1)), ValueError),
@@ -98,6 +100,11 @@ def test_as_rtree() -> None:
 def test_refused(make: Any, error: type[Exception]) -> None:
     with pytest.raises(error):
         make()
+
+
+def test_boxes_without_numbers() -> None:
+    index = Index([(1, (math.nan,) * 4), (2, (0, 0, 1, 2))])
+    assert index.bounds == [0, 0, 1, 2] and [*index.nearest((9, 9), 2)] == [2] and len(index) == 2
 
 
 def test_closed() -> None:

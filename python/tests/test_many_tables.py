@@ -132,6 +132,23 @@ def test_numbers_of_numpy(kind: str) -> None:
             assert many.find(All(), near, number(2)) == one.find(All(), near, number(2))
 
 
+class Index:
+    """What is no number, and stands for one."""
+
+    def __index__(self) -> int:
+        return 2
+
+
+def test_what_stands_for_a_number(three: "Tables") -> None:
+    two: Any = Index()
+    assert three.nearest(two, two, 0) == three.nearest(2, 2, 0) and three.find(All(), Near(two, 0), two) == three.find(All(), Near(2, 0), 2)
+    assert three.find(Circle(two, two, two), first=two) == three.find(Circle(2, 2, 2), first=2) == [0]
+    for kind in (Window, Circle):
+        some = [(0, 30, 0, 9), (0, 9, 0, 9)] if kind is Window else [(0, 0, 9)]
+        same(three.find_each(some, region=kind, order=Near(two, 9), first=two), three.find_each(some, region=kind, order=Near(2, 9), first=2))
+    same(three.nearest_each([(0, 0), (9, 9)], two), three.nearest_each([(0, 0), (9, 9)], 2))
+
+
 @pytest.fixture
 def three() -> Iterator[Tables]:
     with Tables([Rtfilter([(at, at * 10, at * 10 + 5, 0, 5)]) for at in range(3)]) as found:
@@ -147,12 +164,18 @@ def raised(call: Callable[[], object]) -> list[object]:
 @pytest.mark.usefixtures("ways")
 def test_invalid_queries_are_those_of_one_table(three: Tables) -> None:
     one = Rtfilter([(at, at * 10, at * 10 + 5, 0, 5) for at in range(3)])
-    for region in (Window(5, 1, 0, 1), Window(900, 1, 0, 1), Circle(999, 0, -1), Inside(0, 2**31, 0, 1), Polygon([(0, 0)]), 7, Near(0, 0)):
+    turned: list[Any] = [Window(5, 1, 0, 1), Window(900, 1, 0, 1), Circle(999, 0, -1), Inside(0, 2**31, 0, 1), Polygon([(0, 0)]), 7, Near(0, 0)]
+    for region in (*turned, Window("0", 1, 0, 1), Circle(0, 0, "1"), Circle(0, 0.5, 1), Polygon([(0, "0"), (1, 0), (0, 1)])):  # type: ignore
         for first in (None, 3):
             assert raised(lambda: three.find(region, None, first)) == raised(lambda: one.find(region, None, first))  # type: ignore
         assert raised(lambda: three.count(region)) == raised(lambda: one.count(region))  # type: ignore[arg-type]
-    for options in ({"first": -1}, {"first": 1.5}, {"on": 64}, {"on": []}, {"order": 5}, {"order": Near(2**31, 0)}):
+    for options in (
+        {"first": -1}, {"first": 1.5}, {"on": 64}, {"on": []}, {"order": 5}, {"order": Near(2**31, 0)}, {"order": Near(0, 0), "first": "1"},
+        {"order": Near("0", 0), "first": 1},  # type: ignore[arg-type]
+    ):  # fmt: skip
         assert raised(lambda: three.find(All(), **options)) == raised(lambda: one.find(All(), **options))  # type: ignore[arg-type]
+    for point in ((1.5, 0, 0), (1, "0", 0), (1, 0, None), (-1, 0, 0), (1, 2**31, 0)):
+        assert raised(lambda: three.nearest(*point)) == raised(lambda: one.nearest(*point))  # type: ignore[arg-type]
     good, turned, beyond = (0, 20, 0, 9), (50, 40, 0, 9), (0, 2**40, 0, 9)
     turned_in_second = (12, 11, 0, 9)
     faulty = [[good] * 70 + [turned] + [good, beyond], [good, beyond, turned], [turned] * 9, [good] * 8 + [(10**30, 10**31, 0, 9)]]

@@ -11,9 +11,9 @@ from typing import Any
 import numpy
 import pandas
 import pytest
-from conftest import Random, Run, Serve
+from conftest import Connect, Random, Run, Serve
 
-from rtfilter import All, Answers, Circle, Client, Covers, Inside, Near, Polygon, QueryError, Rtfilter, Smallest, Window, aio
+from rtfilter import All, Answers, Circle, Covers, Inside, Near, Polygon, QueryError, Rtfilter, Smallest, Window
 from rtfilter.regions import count_line, find_line, nearest_line
 
 TABLES, LINES = 20, 10_000  # random lines over each table
@@ -177,46 +177,27 @@ def test_calls_in_a_child(case: Case) -> None:
         assert os.waitpid(child, 0)[1] == 0
 
 
-def test_calls_of_a_client(case: Case, serve: Serve) -> None:
+def test_calls_of_a_client(case: Case, connect: Connect, serve: Serve) -> None:
     table, calls, expected = case
-    with Client(serve(table).path, timeout=60) as boxes:
+    with connect(serve(table).path, timeout=60) as boxes:
         assert [given_by(boxes, it) for it in calls] == expected
 
 
-def test_calls_of_a_client_with_asyncio(case: Case, serve: Serve) -> None:
-    table, calls, expected = case
-
-    async def given(boxes: aio.Client, call: Callable[[Any], Any]) -> Any:
-        try:
-            return await call(boxes)
-        except QueryError as error:
-            return error.code, error.text
-
-    async def ask(address: str) -> list[Any]:
-        async with aio.Client(address, timeout=60) as boxes:
-            return await asyncio.gather(*(given(boxes, it) for it in calls))
-
-    assert asyncio.run(ask(serve(table).path)) == expected
-
-
-def test_lines_of_clients(tmp_path: Path, run: Run, serve: Serve, sound_table: Random, some_line: Random) -> None:
-    """Of both kinds of client, whose connections go on."""
+def test_lines_of_a_client(tmp_path: Path, run: Run, connect: Connect, serve: Serve, sound_table: Random, some_line: Random) -> None:
+    """Its connection goes on."""
     chance = random.Random(5)
     table = tmp_path / "table"
     table.write_bytes(sound_table(chance))
     lines = [some_line(chance).replace(b"\n", b"") for _ in range(3000)]
-    texts, path = [*map(os.fsdecode, lines)], serve(table).path
-    with Rtfilter(table) as boxes, Client(path, timeout=60) as client, asyncio.Runner() as runner:
-        other = aio.Client(path, timeout=60)
+    texts = [*map(os.fsdecode, lines)]
+    with Rtfilter(table) as boxes, connect(serve(table).path, timeout=60) as client:
         while lines:
             count = chance.choice([0, 1, 2, 30, 700])
-            text, replies = b"\n".join(lines[:count]), [*map(str, boxes.replies(texts[:count]))]
-            assert client.text(text) == runner.run(other.text(text)) == boxes.text(text) == run(table, text)
-            assert [*map(str, client.replies(texts[:count]))] == [*map(str, runner.run(other.replies(texts[:count])))] == replies
+            text = b"\n".join(lines[:count])
+            assert client.text(text) == boxes.text(text) == run(table, text)
+            assert [*map(str, client.replies(texts[:count]))] == [*map(str, boxes.replies(texts[:count]))]
             lines, texts = lines[count:], texts[count:]
-        assert client.levels() == runner.run(other.levels()) == boxes.levels()
-        assert len(client) == runner.run(other.size()) == len(boxes)
-        runner.run(other.close())
+        assert client.levels() == boxes.levels() and len(client) == len(boxes)
 
 
 @pytest.mark.parametrize("count", [1, 63, 64, 65, 500, 4095, 4097, 9001])

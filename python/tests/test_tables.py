@@ -3,6 +3,7 @@
 import os
 import pickle
 import subprocess
+from itertools import repeat
 from pathlib import Path
 from typing import Any
 
@@ -12,6 +13,7 @@ import pytest
 from conftest import PROGRAM
 
 from rtfilter import All, RtfilterError, Rtfilter, Smallest, TableError, arrays
+from rtfilter import table as module
 
 ROWS = [(1, 0, 10, 0, 10), (2, 5, 15, 5, 15), (3, 20, 30, 0, 10), (4, -5, -1, -5, -1), (5, 12, 12, 12, 12)]
 NAMES = ["id", "min_x", "max_x", "min_y", "max_y"]
@@ -79,8 +81,10 @@ def test_settings(tmp_path: Path, data: Path) -> None:
     with Rtfilter(os.fspath(table), header=True, fanout=2, max_entries=5) as boxes:
         assert boxes.levels() == [(3, 1), (2, 2), (1, 3), (0, 5)]
     for bad in ({"fanout": 1}, {"fanout": 65}, {"fanout": 2**70}, {"fanout": -1}, {"max_entries": 0}, {"max_entries": 2**24 + 1}):
-        with pytest.raises((ValueError, OverflowError)):
+        with pytest.raises(ValueError, match="^fanout is 2 to 64, and max_entries 1 to 16777216$"):
             Rtfilter(ROWS, **bad)
+    with pytest.raises(TypeError, match="^2.5 isn't a whole number$"):
+        Rtfilter(table, fanout=2.5)  # type: ignore[arg-type]
     with pytest.raises(ValueError, match="only a CSV file has a header"):
         Rtfilter(ROWS, header=True)
 
@@ -108,53 +112,49 @@ def test_faulty_files(text: str, fault: tuple[int, int, int], tmp_path: Path) ->
     assert str(error) == f"{table}: {error.text}" + (f"; {SIDES}" if error.kind == 5 else "")
 
 
-def test_too_many() -> None:
-    for table in (ROWS, numpy.array(ROWS)):
-        with pytest.raises(TableError, match="^table record 4: too many entries$"):
-            Rtfilter(table, max_entries=3)
+ONE = (1, 0, 1, 0, 1)
 
 
-@pytest.mark.parametrize("as_array", [False, True])
 @pytest.mark.parametrize(
     "rows, fault",
     [
-        ([(1, 0, 1, 0, 1), (2, 0, 2**31, 0, 1)], (4, 2, 3)),
+        ([ONE, (2, 0, 2**31, 0, 1)], (4, 2, 3)),
         ([(1, 0, 1, -(2**31) - 1, 1), (2, 0, 2**40, 0, 1)], (4, 1, 4)),
-        ([(1, 0, 1, 0, 1), (2**63, 0, 1, 0, 1)], (4, 2, 1)),
+        ([ONE, (2**63, 0, 1, 0, 1)], (4, 2, 1)),
+        ([ONE, (2**63 + 1024, 0, 1, 0, 1)], (4, 2, 1)),  # 2**63 - 1 in floats, as the one before
+        ([ONE, (2**64 - 1, 0, 1, 0, 1)], (4, 2, 1)),
         ([(-(2**63) - 1, 0, 1, 0, 1)], (4, 1, 1)),
         ([(1, 5, 1, 0, 1), (2, 0, 2**31, 0, 1)], (5, 1, 2)),
-        ([(1, 0, 1, 0, 1), (1, 0, 1, 0, 1), (2, 0, 2**31, 0, 1)], (4, 3, 3)),
-        ([(1, 0, 1, 0, 1, 64)], (4, 1, 6)),
-        ([(1, 0, 1, 0, 1, 256)], (4, 1, 6)),
-        ([(1, 0, 1, 0, 1, -1)], (4, 1, 6)),
-        ([(1, 0, 1, 0, 1), (1, 0, 1, 0, 1)], (6, 2, 1)),
+        ([(*ONE, 64)], (4, 1, 6)),
+        ([(*ONE, 256)], (4, 1, 6)),
+        ([(*ONE, -1)], (4, 1, 6)),
+        ([ONE, ONE], (6, 2, 1)),
+        ([ONE, ()], (2, 2, 0)),
+        ([ONE, (1, 0, 1, 0)], (2, 2, 4)),
+        ([ONE, (*ONE, 0, 0)], (2, 2, 7)),
+        ([(1, 5, 1, 0, 1), (2, 0, 1, 0)], (5, 1, 2)),
+        ([ONE, ONE, (2, 0, 1, 0)], (2, 3, 4)),
+        ([ONE, ONE, (2, 0, 2**31, 0, 1)], (4, 3, 3)),
+        ([ONE] * 4, (1, 4, 0)),
+        ([ONE] * 3 + [(2, 0, 1, 0)], (1, 4, 0)),
+        ([ONE] * 3 + [(2, 0, 2**31, 0, 1)], (1, 4, 0)),
     ],
 )
-def test_faulty_rows(rows: list[Any], fault: tuple[int, int, int], as_array: bool) -> None:
-    table = numpy.array(rows, object) if as_array else rows
-    with pytest.raises(TableError) as raised:
-        Rtfilter(table)
-    assert (raised.value.kind, raised.value.record, raised.value.field) == fault
-
-
-@pytest.mark.parametrize(
-    "rows, most, fault",
-    [
-        ([(1, 5, 1, 0, 1), (2, 0, 1, 0)], 9, (5, 1, 2)),
-        ([(1, 0, 1, 0, 1), (2, 0, 1, 0)], 1, (1, 2, 0)),
-        ([(1, 0, 1, 0, 1), (1, 0, 1, 0, 1), (2, 0, 1, 0)], 9, (2, 3, 4)),
-        ([(1, 0, 1, 0, 1), (2, 0, 2**31, 0, 1)], 1, (1, 2, 0)),
-        ([(1, 0, 1, 0, 1), (2, 0, 2**31, 0, 1)], 2, (4, 2, 3)),
-        ([(1, 0, 1, 0, 1)] * 2 + [(2, 0, 2**31, 0, 1)], 1, (1, 2, 0)),
-    ],
-)
-def test_the_first_fault(rows: list[Any], most: int, fault: tuple[int, int, int]) -> None:
-    """The one that a file of these rows has, but for ids, which are compared last."""
-    tables = [rows] if len({*map(len, rows)}) > 1 else [rows, numpy.array(rows, object), numpy.array(rows)]
+def test_faulty_rows(rows: list[Any], fault: tuple[int, int, int]) -> None:
+    """The fault is that of a file of these rows, but for ids, which are compared last."""
+    tables: list[Any] = [rows]
+    if len({*map(len, rows)}) == 1:
+        tables += [numpy.array(rows, object), *(it for it in [numpy.array(rows)] if it.dtype.kind in "iu")]
     for table in tables:
         with pytest.raises(TableError) as raised:
-            Rtfilter(table, max_entries=most)
+            Rtfilter(table, max_entries=3)
         assert (raised.value.kind, raised.value.record, raised.value.field) == fault
+
+
+def test_rows_without_end(monkeypatch: pytest.MonkeyPatch) -> None:
+    monkeypatch.setattr(module, "MOST_ENTRIES", 5)
+    with pytest.raises(TableError, match="^table record 6: too many entries$"):
+        Rtfilter(repeat(ONE), max_entries=5)
 
 
 def test_rows_that_are_not_whole() -> None:
@@ -180,20 +180,9 @@ def test_numbers_are_never_wrapped() -> None:
     for kind, number in (("i8", 2**32), ("u4", 2**31), ("u8", 2**63), ("i8", -(2**31) - 1)):
         with pytest.raises(TableError, match="out of range"):
             Rtfilter(numpy.array([(1, number, number, 0, 1)], kind))
-    with pytest.raises(TableError, match="out of range"):
-        Rtfilter.from_bounds(numpy.array([(0, 0, 2**32 + 1, 1)]))
-    for id in (2**63, 2**63 + 1024, 2**64 - 1):  # the first two are 2**63 - 1 in floats
-        for ids in (numpy.array([7, id], "u8"), numpy.array([7, id], object)):
-            with pytest.raises(TableError, match="^table record 2: field 1 is out of range$"):
-                Rtfilter.from_bounds([(0, 0, 1, 1)] * 2, ids=ids)
+    for kind in ("u8", object):
         with pytest.raises(TableError, match="^table record 2: field 1 is out of range$"):
-            Rtfilter(numpy.array([(7, 0, 1, 0, 1), (id, 0, 1, 0, 1)], "u8"))
-
-
-def test_fields() -> None:
-    for row in ((), (1, 0, 1, 0), (1, 0, 1, 0, 1, 0, 0)):
-        with pytest.raises(TableError, match=rf"^table record 2: wrong number of fields \({len(row)}\)$"):
-            Rtfilter([ROWS[0], row])
+            Rtfilter.from_bounds([(0, 0, 1, 1)] * 2, ids=numpy.array([7, 2**63], kind))
 
 
 FRAME = pandas.DataFrame(ROWS, columns=NAMES)
@@ -218,6 +207,8 @@ FRAME = pandas.DataFrame(ROWS, columns=NAMES)
         (FRAME.astype("Int64").replace(30, pandas.NA), "the table: row 2: <NA> isn't a whole number"),
         (7, "a table is the name of a file, rows, an array or a frame, and not 7"),
         ([ROWS[0], 7], "row 1: 7 isn't a row of id, min_x, max_x, min_y, max_y"),
+        (["1,0,1,0,1\n"], "row 0: '1,0,1,0,1\\n' isn't a row of id, min_x, max_x, min_y, max_y"),
+        ({"id": [1], "min_x": [0]}, "row 0: 'id' isn't a row of id, min_x, max_x, min_y, max_y"),
     ],
 )
 def test_other_types(table: Any, words: str) -> None:
@@ -230,7 +221,7 @@ def test_files_that_cannot_be_read(tmp_path: Path) -> None:
     for bad, error in ((tmp_path / "none", FileNotFoundError), (tmp_path, IsADirectoryError), (tmp_path / "a" / "b", FileNotFoundError)):
         with pytest.raises(error) as raised:
             Rtfilter(bad)
-        assert raised.value.filename == bad
+        assert raised.value.filename == os.fspath(bad) and repr(os.fspath(bad)) in str(raised.value)
     with pytest.raises(ValueError, match="null"):
         Rtfilter("a\0b")
 

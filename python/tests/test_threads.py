@@ -13,6 +13,7 @@ import pytest
 from support import LONGEST
 
 from rtfilter import All, Rtfilter, Window
+from rtfilter.zones import Zones
 
 COUNT, SPAN, FORKS = 100_000, 1_000_000, 400
 Work = Callable[[], None]
@@ -82,11 +83,13 @@ def test_children_of_forks_in_the_middle_of_calls(table: Rtfilter, windows: Any)
     assert not raised
 
 
-@pytest.mark.parametrize("name", ["find_each", "nearest_each", "count_each"])
+@pytest.mark.parametrize("name", ["find_each", "nearest_each", "count_each", "holding_each"])
 def test_a_signal_is_met_between_parts(table: Rtfilter, windows: Any, name: str) -> None:
     whole = numpy.tile([[0, SPAN, 0, SPAN]], (3000, 1))
     edges = whole - numpy.array([[0, 500_000, 0, 0]])
+    zones = Zones([{"type": "Polygon", "coordinates": [[(0, 0), *[(5, 0), (5, 9), (9, 9)] * 70_000, (0, 0)]]}])
     call = {
+        "holding_each": lambda: zones.holding_each(numpy.full((30_000, 2), (8, 5))),
         "find_each": lambda: table.find_each(whole),
         "nearest_each": lambda: table.nearest_each(whole[:, [1, 3]], COUNT),
         "count_each": lambda: table.count_each(numpy.tile(edges, (100, 1))),

@@ -6,6 +6,7 @@ from itertools import pairwise
 from typing import Any
 
 import numpy
+import pandas
 import pytest
 
 from rtfilter.zones import Zones
@@ -106,8 +107,21 @@ def test_ways_in() -> None:
     for it in [*given, [shape], frame, frame.geometry, numpy.array([shape, None])[:1]]:
         zones = Zones(it)
         assert zones.holding(5, 2) == [0] and zones.holding(2, 5) == [] and len(zones) == 1
+    zones = Zones([whole])
+    for points in (pandas.DataFrame({"y": [2, 5], "x": [5, 2]}), numpy.array([(2, 5), (5, 2)], [("y", "f8"), ("x", "i4")])):
+        assert [it.tolist() for it in zones.holding_each(points)] == [[0], [0]]
     assert Zones([]).holding(0, 0) == [] and len(Zones([])) == 0
     assert [len(it) for it in Zones([whole]).holding_each([])] == [0, 0]
+
+
+@pytest.mark.parametrize("at", [0, 1, 2])
+def test_empty_polygons(at: int) -> None:
+    """They hold no point, wherever they stand, and have a place."""
+    square = {"type": "Polygon", "coordinates": [[(0, 0), (9, 0), (9, 9), (0, 9), (0, 0)]]}
+    for empty in ({"type": "Polygon", "coordinates": []}, {"type": "MultiPolygon", "coordinates": [[]]}, {"type": "MultiPolygon", "coordinates": []}):
+        polygons = [square, square]
+        polygons.insert(at, empty)
+        assert Zones(polygons).holding(5, 5) == [it for it in range(3) if it != at] and Zones([empty]).holding(0, 0) == []
 
 
 @pytest.mark.parametrize(
@@ -119,6 +133,8 @@ def test_ways_in() -> None:
         ({"type": "Polygon", "coordinates": [[(0, 0), (9, 0), (float("nan"), 9), (0, 0)]]}, "a ring"),
         ({"type": "Polygon", "coordinates": [[(0, 0), (9, 0), (float("inf"), 9), (0, 0)]]}, "a coordinate that isn't finite"),
         ({"type": "Polygon", "coordinates": [[(0, 0), "ab", (9, 9), (0, 0)]]}, "a position isn't a pair of numbers"),
+        ({"type": "Polygon", "coordinates": [[(0,), (9,), (5,), (0,)]]}, "a position isn't a pair of numbers"),
+        ({"type": "Polygon", "coordinates": [[("0", "0"), ("9", "0"), ("9", "9"), ("0", "0")]]}, "a position isn't a pair of numbers"),
         ({"type": "Point", "coordinates": (0, 0)}, "Point is no Polygon and no MultiPolygon"),
         (None, "NoneType is no Polygon"),
     ],
@@ -139,6 +155,9 @@ def test_refused_points() -> None:
         (lambda: zones.holding(float("nan"), 0), ValueError),
         (lambda: zones.holding_each([(0, 1, 2)]), TypeError),
         (lambda: zones.holding_each([(0.5, 1)]), TypeError),
+        (lambda: zones.holding_each([("0", "1")]), TypeError),
+        (lambda: zones.holding_each(numpy.ma.array([(0, 1)], mask=[[True, False]])), TypeError),
+        (lambda: zones.holding_each(pandas.DataFrame({"x": [0]})), TypeError),
     ):
         with pytest.raises(error):
             call()
