@@ -9,7 +9,8 @@ import tempfile
 import unittest
 from pathlib import Path
 
-from tiles_support import HOSTILE_LAYER, HOSTILE_NAME, Mapped, Server, ids_of, make_map, number_of, replies_of, wants
+from support import wants
+from tiles_support import HOSTILE_LAYER, HOSTILE_NAME, Mapped, Server, ids_of, make_map, number_of, replies_of
 
 from rtfilter.tiles.mercator import DEEPEST, HALF, cells_of, cuts, window_of
 
