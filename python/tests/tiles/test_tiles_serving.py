@@ -6,6 +6,7 @@ import gzip
 import json
 import os
 import re
+import resource
 import select
 import signal
 import socket
@@ -21,7 +22,7 @@ from typing import Any
 
 from aiohttp.test_utils import TestClient, TestServer
 from chromium import Chromium
-from support import LONGEST, ROOT, environment, opened_for_writing, until, wants
+from support import LONGEST, ROOT, environment, found, opened_for_writing, until, wants
 from tiles_support import BOXES, COMMAND, Mapped, Server, make_map
 
 from rtfilter.tiles import server as serving
@@ -32,6 +33,7 @@ from rtfilter.tiles.views import Views
 TILE = "/8/128/127.pbf"
 EMPTY = "/9/0/0.pbf"
 LAYERS = ["towns", "motorways", "main roads", "minor roads", "streets", "<b>buildings</b>"]
+MORE_MEMORY = 20_000_000  # bytes: enough for a thread, and for no million of boxes
 MOST_SECONDS = 0.02  # of processor time for a tile of some 100 boxes, which takes a tenth of that
 
 
@@ -277,6 +279,17 @@ class Reloads(unittest.TestCase):
             "rtfilter-tiles: the table is exchanged: 7 boxes", "rtfilter-tiles: the table is exchanged: 9 boxes",
             f"rtfilter-tiles: {self.table}: table record 6: wrong number of fields (1); the old table stays",
         ])  # fmt: skip
+
+    def test_a_table_for_which_there_is_no_memory(self) -> None:
+        """The old one stays, and a message says why."""
+        with Server(self.table) as server:
+            size = int(found(r"VmSize:\s*(\d+) kB", Path(f"/proc/{server.process.pid}/status").read_text())[1])
+            resource.prlimit(server.process.pid, resource.RLIMIT_AS, (size * 1024 + MORE_MEMORY,) * 2)
+            self.write(1_000_000)
+            server.process.send_signal(signal.SIGHUP)
+            until(lambda: metric(server, "rtfilter_loads_failed_total") == 1)
+            self.assertEqual(json.loads(server.get("/health")[1]), {"boxes": 5})
+            self.assertEqual(server.end(), (0, "rtfilter-tiles: out of memory; the old table stays\n"))
 
     def test_several_on_one_port(self) -> None:
         """With --reuse-port another process may listen too, and goes on where the first ends."""
