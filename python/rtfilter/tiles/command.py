@@ -71,7 +71,7 @@ def arguments() -> argparse.Namespace:
     parser.add_argument("--port", type=whole(0, 65535), default=8080, metavar="PORT", help="port to listen on, 0 for any free one (default 8080)")
     parser.add_argument("--reuse-port", action="store_true", help="let several processes listen on the port, each with its own table")
     parser.add_argument("--host", action="append", default=[], metavar="NAME", help="another name of this server, as behind a proxy; may be repeated")
-    parser.add_argument("--url", metavar="URL", help="the server's address behind a proxy, with a slash at its end (default http and the Host)")
+    parser.add_argument("--url", type=with_slash, metavar="URL", help="the server's address behind a proxy, as https://example.org/map/ (default http and the Host)")
     parser.add_argument(
         "--origin", action="append", default=[], metavar="ORIGIN",
         help="origin whose pages may read replies, as https://maps.example.org, * for any, null for files; may be repeated",
@@ -83,6 +83,11 @@ def arguments() -> argparse.Namespace:
     )  # fmt: skip
     parser.add_argument("--version", action="version", version=f"{NAME} {__version__}", help="print the version")
     return parser.parse_args()
+
+
+def with_slash(address: str) -> str:
+    """An address with a slash at its end."""
+    return address.rstrip("/") + "/"
 
 
 def main() -> int:

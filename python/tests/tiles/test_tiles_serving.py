@@ -65,11 +65,12 @@ class Descriptions(Serving):
         self.assertTrue(max(x2 - x1, y2 - y1) <= 2 * 2 * HALF / 2**z < 2 * max(x2 - x1, y2 - y1) + 2)
 
     def test_addresses_as_others_have_them(self) -> None:
-        with Server(self.table, "--host", "tiles.example.org", "--url", "https://example.org/t/") as server:
-            reply, body = self.response("/tiles.json", server, Host="tiles.example.org")
-            self.assertEqual(json.loads(body)["tiles"], ["https://example.org/t/{z}/{x}/{y}.pbf"])
-            _, body = self.response("/style.json", server)
-            self.assertEqual(json.loads(body)["sources"]["boxes"]["url"], "https://example.org/t/tiles.json")
+        for url in ("https://example.org/t/", "https://example.org/t"):
+            with Server(self.table, "--host", "tiles.example.org", "--url", url) as server:
+                reply, body = self.response("/tiles.json", server, Host="tiles.example.org")
+                self.assertEqual(json.loads(body)["tiles"], ["https://example.org/t/{z}/{x}/{y}.pbf"])
+                _, body = self.response("/style.json", server)
+                self.assertEqual(json.loads(body)["sources"]["boxes"]["url"], "https://example.org/t/tiles.json")
         reply, body = self.response("/tiles.json", Host=f"LOCALHOST:{self.server.port}")
         self.assertEqual(json.loads(body)["tiles"], [f"http://localhost:{self.server.port}/{{z}}/{{x}}/{{y}}.pbf"])
 
