@@ -30,13 +30,17 @@ class Lines:
     """The lines of a GeoJSON file in a plane, and a table of the boxes around them, in whole metres."""
 
     def __init__(self, file: str, crs: str) -> None:
-        with open(file, encoding="utf-8") as text:
-            features = json.load(text)["features"]
         self._plane = Transformer.from_crs(DEGREES, crs, always_xy=True)
         self._earth = Geod(ellps="WGS84")
-        self._ids = [feature.get("id", place) for place, feature in enumerate(features)]
-        self._names = [(feature.get("properties") or {}).get("name") or "" for feature in features]
-        self._lines = [transform(self._plane.transform, shape(feature["geometry"])) for feature in features]
+        with open(file, encoding="utf-8-sig") as text:
+            read = json.load(text)
+        try:
+            features = read["features"]
+            self._ids = [feature.get("id", place) for place, feature in enumerate(features)]
+            self._names = [(feature.get("properties") or {}).get("name") or "" for feature in features]
+            self._lines = [transform(self._plane.transform, shape(feature["geometry"])) for feature in features]
+        except (AttributeError, KeyError, TypeError):
+            raise ValueError(f"{file}: no FeatureCollection of lines") from None
         bounds = numpy.array([line.bounds for line in self._lines]).reshape(-1, 4)
         self._boxes = Rtfilter.from_bounds(numpy.hstack([whole(numpy.floor(bounds[:, :2])), whole(numpy.ceil(bounds[:, 2:]))]))
 
@@ -76,16 +80,16 @@ def whole(numbers: Any) -> Any:
 def rows(records: Iterator[list[str]], columns: tuple[int, int], lines: Lines, k: int) -> Iterator[list[str]]:
     """Each record, once for each of the lines nearest to its position."""
     while batch := list(islice(records, AT_ONCE)):
-        positions = [(number(record[columns[0]]), number(record[columns[1]])) for record in batch]
+        positions = [(number(record, columns[0]), number(record, columns[1])) for record in batch]
         for place, found in lines.nearest_each(positions, k):
             yield [*batch[place], *found]
 
 
-def number(word: str) -> float:
+def number(record: list[str], column: int) -> float:
     try:
-        return float(word)
-    except ValueError:
-        raise ValueError(f"{word!r} is no number") from None
+        return float(record[column])
+    except (IndexError, ValueError):
+        raise ValueError(f"no number in field {column + 1} of {','.join(record):.50}") from None
 
 
 def main() -> None:
@@ -100,12 +104,12 @@ def main() -> None:
         parser.error("argument --nearest: 1 or more")
     try:
         write(args)
-    except (OSError, ValueError) as error:
+    except (OSError, ValueError, csv.Error) as error:
         sys.exit(f"roads.py: {error}")
 
 
 def write(args: argparse.Namespace) -> None:
-    with open(args.positions, encoding="utf-8", newline="") as file:
+    with open(args.positions, encoding="utf-8-sig", newline="") as file:
         records = csv.reader(file)
         header: list[str] = next(records, [])
         columns = args.columns.split(",")

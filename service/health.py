@@ -21,7 +21,7 @@ async def serve(listener: socket.socket, metrics: Callable[[], Mapping[str, floa
         if len(asking) == MOST_AT_ONCE:
             asking[0].transport.abort()
         asking.append(writer)
-        with contextlib.suppress(OSError, ValueError), contextlib.closing(writer):
+        with contextlib.suppress(OSError, ValueError, asyncio.CancelledError), contextlib.closing(writer):  # or the service ends
             async with asyncio.timeout(PATIENCE):
                 request = await reader.readline()
                 for _ in range(MOST_HEADERS):  # which are skipped

@@ -21,7 +21,7 @@ import health
 import prefork
 from listening import peer_of
 
-PAUSE, BETWEEN_COMPLAINTS = 0.1, 10.0  # seconds before another try to accept, and before that is logged again
+PAUSE, BETWEEN_COMPLAINTS = 0.1, 10.0  # seconds before another try to accept, and before such a fault is logged again
 FIRST_PAUSE, LONGEST_PAUSE = 0.1, 10.0  # seconds before a program is started anew
 GRACE = 2.0  # seconds that a program has to begin what it was given
 MOST_PENDING = 4  # connections that a program may have to begin yet: others wait in the backlog
@@ -68,6 +68,12 @@ def text_of(error: OSError) -> str:
     return f"{error.filename}: {error.strerror}" if error.filename else error.strerror or str(error)
 
 
+def kill_group(leader: int) -> None:
+    """Kills a process with its group, of which there is none if it was killed before it could lead one."""
+    with contextlib.suppress(ProcessLookupError):
+        os.killpg(leader, signal.SIGKILL)
+
+
 def send_line(connection: socket.socket, text: str) -> None:
     """Sends a line to a client, if that needs no wait. No reply begins so."""
     with contextlib.suppress(OSError):
@@ -108,10 +114,10 @@ class Service:
         self._tables: list[Table] = []  # whose programs haven't ended: at most two
         self._table: Table | None = None  # of new connections
         self._is_reload_requested = False
-        self._is_end_urgent = False
+        self._is_ending = self._is_end_urgent = False
         self._changed = asyncio.Event()  # any of these
         self._common = prefork.Common()
-        self._open: set[socket.socket] = set()  # connections that have a process
+        self._open: set[socket.socket] = set()  # connections that a program was given
         self._counts = Counter(
             connections=0, connections_total=0, connections_refused_total=0, connections_not_begun_total=0,
             table_generation=0, loads_failed_total=0,
@@ -125,7 +131,7 @@ class Service:
     async def run(self, health_listener: socket.socket | None) -> int:
         """Serves until a signal ends it, and returns the exit status."""
         loop = asyncio.get_running_loop()
-        loop.set_exception_handler(lambda _, it: log(f"rtfilter-serve: {it['message']}: {it.get('exception')}"))
+        loop.set_exception_handler(lambda _, it: self._complain(f"{it['message']}: {it.get('exception')}"))
         if health_listener:
             await health.serve(health_listener, self._metrics)
         for listener in self._listeners:
@@ -146,12 +152,13 @@ class Service:
 
     def _request_end(self, keeping: "asyncio.Task[None]") -> None:
         """Once, connections may still write what they have begun; the second time they are ended."""
-        self._is_end_urgent = keeping.cancelled()
+        self._is_end_urgent = keeping.cancelling() > 0
         keeping.cancel()
         self._state_changed()
 
     async def _end_connections(self) -> None:
         """Has connections end once they have answered the lines that they have read, for as long as `--drain` lets them."""
+        self._is_ending = True
         self._common.end()
         for connection in self._open:
             with contextlib.suppress(OSError):
@@ -208,6 +215,7 @@ class Service:
             try:
                 await self._load("ready again")
             except OSError as error:
+                self._counts["loads_failed_total"] += 1
                 log(f"the new table isn't taken, {'the old one stays' if self._table else 'there is none'}: {text_of(error)}")
                 notify("READY=1")
 
@@ -215,7 +223,10 @@ class Service:
         """Has a program load the table, and then answer. Raises `OSError`, where it doesn't."""
         reply = b""
         with open(os.memfd_create("rtfilter-errors"), "rb") as errors:
-            table = Table(self._start(errors.fileno(), 2, self._common))
+            try:
+                table = Table(self._start(errors.fileno(), 2, self._common))
+            except OSError as error:
+                raise ChildProcessError(f"the program can't be started: {text_of(error)}") from None
             asyncio.get_running_loop().add_reader(table.control, self._read_reports, table)
             self._tables.append(table)
             with table.first, contextlib.suppress(BlockingIOError, ConnectionError):  # it hasn't answered, nor read
@@ -232,7 +243,6 @@ class Service:
             fault = f"{self._args.table}: {fault.removeprefix('rtfilter: ')}"
         fault += MORE_BOXES[1] * (MORE_BOXES[0] in fault)
         fault += reason(self._args.table) if fault.endswith(NOT_OPENED) else ""
-        self._counts["loads_failed_total"] += 1
         self._status = max(table.process.returncode, NO_SERVICE)
         if not is_over:
             fault = f"{self._args.table}: not loaded in {self._args.load_timeout:g} seconds"
@@ -262,7 +272,7 @@ class Service:
     async def _end(self, table: Table) -> None:
         """Ends a program with its connections."""
         if table in self._tables:
-            os.killpg(table.process.pid, signal.SIGKILL)
+            kill_group(table.process.pid)
             await self._wait_until(lambda: table not in self._tables)
 
     def _read_reports(self, table: Table) -> None:
@@ -287,7 +297,7 @@ class Service:
         """Kills what is left of a program's group, its connections too, and waits for it."""
         asyncio.get_running_loop().remove_reader(table.control)
         table.control.close()
-        os.killpg(table.process.pid, signal.SIGKILL)
+        kill_group(table.process.pid)
         status = table.process.wait()
         with contextlib.suppress(ChildProcessError):  # its connections are this process's only where that is process 1
             while True:
@@ -308,7 +318,7 @@ class Service:
         return self._table if self._table and len(self._table.pending) < MOST_PENDING else None
 
     def _accept(self, listener: socket.socket) -> None:
-        """Accepts a connection. A lack of descriptors is logged now and then, and it is tried again after a pause."""
+        """Accepts a connection. Where there is no descriptor for it, it is tried again after a pause."""
         loop = asyncio.get_running_loop()
         try:
             if self._counts["connections"] >= self._most_connections:
@@ -319,9 +329,13 @@ class Service:
         except OSError as error:
             loop.remove_reader(listener)
             loop.call_later(PAUSE, self._state_changed)
-            if time.monotonic() >= self._last_complaint + BETWEEN_COMPLAINTS:
-                self._last_complaint = time.monotonic()
-                log(f"no connection accepted: {error.strerror}")
+            self._complain(f"no connection accepted: {error.strerror}")
+
+    def _complain(self, text: str) -> None:
+        """Logs what may be wrong at each connection, now and then."""
+        if time.monotonic() >= self._last_complaint + BETWEEN_COMPLAINTS:
+            self._last_complaint = time.monotonic()
+            log(text)
 
     async def _serve(self, connection: socket.socket, address: object) -> None:
         """Serves a connection to its end. The socket stays open here until that is counted: a client that sees the end of one
@@ -341,7 +355,8 @@ class Service:
             kind, code = ("status", code) if code >= 0 else ("signal", -code)
             self._counts[f'connections_ended_total{{{kind}="{code}"}}'] += 1
             how = f"{kind}={code} seconds={time.monotonic() - begun:.3f}"
-            if kind == "status" and code == UNREADABLE and 0 < self._args.silence <= time.monotonic() - begun:
+            could_be_silent = not self._is_ending and 0 < self._args.silence <= time.monotonic() - begun
+            if kind == "status" and code == UNREADABLE and could_be_silent:
                 send_line(connection, f"silent for {self._args.silence:g} seconds")
         self._counts["connections"] -= 1
         with contextlib.suppress(OSError), connection:
@@ -363,16 +378,16 @@ class Service:
                 self._open.add(connection)
                 if not self._accepting_table():
                     self._state_changed()
-                if (status := await end) is not None:
+                status = await end
+                self._open.discard(connection)
+                if not self._open:
+                    self._state_changed()  # the service may wait for the last one, in order to end
+                if status is not None:
                     return status
         except OSError as error:
             return -(error.errno or errno.EIO)
         except asyncio.CancelledError:  # the service ends
             return signal.SIGKILL
-        finally:
-            self._open.discard(connection)
-            if not self._open:
-                self._state_changed()  # the service may wait for the last one, in order to end
 
     def _metrics(self) -> dict[str, float]:
         counts: dict[str, float] = {**self._counts, **self._common.metrics()}

@@ -1,9 +1,14 @@
 """What tests around the program share: where things are, and the examples of pages."""
 
+import errno
 import os
+import re
+import shutil
 import subprocess
 import sys
-from collections.abc import Iterator
+import time
+import unittest
+from collections.abc import Callable, Iterator
 from pathlib import Path
 
 import pages
@@ -52,3 +57,45 @@ def printed(page: Path, tool: str, path: str = "") -> Iterator[tuple[str, str, s
             stderr=subprocess.STDOUT, text=True, timeout=LONGEST,
         )  # fmt: skip
         yield command, shown, done.stdout
+
+
+def wants(*tools: str) -> None:
+    """Skips a test that needs these tools where one of them isn't installed."""
+    missing = [tool for tool in tools if shutil.which(tool) is None]
+    if missing:
+        raise unittest.SkipTest(f"{', '.join(missing)}: not installed")
+
+
+def found(pattern: str, text: str, flags: int = 0) -> re.Match[str]:
+    """Where a text has a part that matches, as it is to have."""
+    match = re.search(pattern, text, flags)
+    assert match is not None, f"{pattern} isn't in {text[:2000]!r}"
+    return match
+
+
+def seconds_of(process: int) -> float:
+    """Processor time of a process so far."""
+    # Behind the name, which is in brackets and may hold anything: from the third field of proc(5)'s stat on.
+    fields = Path(f"/proc/{process}/stat").read_text().rpartition(")")[2].split()
+    return (int(fields[11]) + int(fields[12])) / os.sysconf("SC_CLK_TCK")
+
+
+def until(is_so: Callable[[], object], what: str = "what is waited for") -> None:
+    """Waits until something is so."""
+    end = time.monotonic() + LONGEST
+    while not is_so():
+        if time.monotonic() > end:
+            raise TimeoutError(f"{what} doesn't come")
+        time.sleep(0.005)
+
+
+def opened_for_writing(pipe: Path) -> int:
+    """The end of a named pipe, once another process reads from it."""
+    until = time.monotonic() + LONGEST
+    while True:
+        try:
+            return os.open(pipe, os.O_WRONLY | os.O_NONBLOCK)
+        except OSError as error:
+            if error.errno != errno.ENXIO or time.monotonic() > until:
+                raise
+            time.sleep(0.01)

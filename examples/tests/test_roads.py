@@ -28,7 +28,7 @@ def line(id: Any, *paths: Any, **properties: Any) -> dict[str, Any]:
     return feature if id is None else {**feature, "id": id}
 
 
-def run(folder: Path, features: list[dict[str, Any]], positions: str, *options: str) -> subprocess.CompletedProcess[str]:
+def run(folder: Path, features: list[Any], positions: str, *options: str) -> subprocess.CompletedProcess[str]:
     lines, records = folder / "lines.geojson", folder / "positions.csv"
     lines.write_text(json.dumps({"type": "FeatureCollection", "features": features}))
     records.write_text(positions)
@@ -83,7 +83,7 @@ def test_as_a_scan(crs: str, tmp_path: Path) -> None:
 def test_records(tmp_path: Path) -> None:
     """They are written again as they are, in their order; a line without an id has its place, one without a name none."""
     features = [line(None, [(0, 0), (1, 0)]), line("b", [(0, 1), (1, 1)], name="Lane")]
-    text = 'id,y,"a ""note""",x\n' + "".join(f'{at},0.75,"b,\n""",0.5\n' for at in range(2500))
+    text = '\ufeffid,y,"a ""note""",x\n' + "".join(f'{at},0.75,"b,\n""",0.5\n' for at in range(2500))
     found = rows(tmp_path, features, text, "--columns", "x,y", "--nearest", "2")
     assert [it["id"] for it in found] == [str(at) for at in range(2500) for _ in range(2)]
     assert {it['a "note"'] for it in found} == {'b,\n"'}
@@ -94,12 +94,19 @@ def test_records(tmp_path: Path) -> None:
 def test_refusals(tmp_path: Path) -> None:
     for positions, options, why in (
         ("longitude,latitude\n0,91\n", [], "outside of the plane"),
-        ("longitude,latitude\nx,1\n", [], "'x' is no number"),
+        ("longitude,latitude\nx,1\n", [], "roads.py: no number in field 1 of x,1"),
+        ("longitude,latitude\n1\n", [], "roads.py: no number in field 2 of 1"),
+        (f"longitude,latitude\n1,{'1' * 200_000}\n", [], "roads.py: field larger than field limit (131072)"),
         ("x,y\n1,1\n", [], "positions.csv: it has no columns longitude,latitude: give --columns X,Y"),
         ("longitude,latitude\n1,1\n", ["--nearest", "-1"], "argument --nearest: 1 or more"),
     ):
-        done = run(tmp_path, [line(1, [(0, 0), (1, 1)])], positions, *options)
-        assert done.returncode != 0 and done.stderr.splitlines()[-1].endswith(why) and "Traceback" not in done.stderr
+        assert_refused(run(tmp_path, [line(1, [(0, 0), (1, 1)])], positions, *options), why)
+    for feature in ({**line(1, [(0, 0), (1, 1)]), "geometry": None}, {}, 5):
+        assert_refused(run(tmp_path, [feature], "longitude,latitude\n1,1\n"), "lines.geojson: no FeatureCollection of lines")
+
+
+def assert_refused(done: subprocess.CompletedProcess[str], why: str) -> None:
+    assert done.returncode != 0 and done.stderr.splitlines()[-1].endswith(why) and "Traceback" not in done.stderr
 
 
 def test_page() -> None:

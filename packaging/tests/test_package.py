@@ -15,7 +15,7 @@ import unittest
 from pathlib import Path
 from typing import Any
 
-from support import DATA, PACKAGE, PROGRAM, ROOT
+from support import DATA, PACKAGE, PROGRAM, ROOT, found, wants
 
 LIBRARY = os.environ.get("RTFILTER_LIBRARY")  # librtfilter.a
 MAKE = ROOT / "packaging/make_packages.py"
@@ -83,18 +83,6 @@ def run(*words: object, **options: Any) -> str:
     return str(done.stdout)
 
 
-def found(pattern: str, text: str) -> re.Match[str]:
-    it = re.search(pattern, text)
-    assert it, f"{pattern} isn't in {text[:1000]!r}"
-    return it
-
-
-def wants(test: unittest.TestCase, *tools: str) -> None:
-    missing = [tool for tool in tools if shutil.which(tool) is None]
-    if missing:
-        test.skipTest(f"{', '.join(missing)}: not installed")
-
-
 class Versions(unittest.TestCase):
     def test_all_name_the_same(self) -> None:
         project = tomllib.loads((PACKAGE / "pyproject.toml").read_text(encoding="utf-8"))["project"]
@@ -121,7 +109,7 @@ class Packages(unittest.TestCase):
                 run("dpkg-deb", "--extract", package, cls.scratch / name)
 
     def setUp(self) -> None:
-        wants(self, *TOOLS)
+        wants(*TOOLS)
         if not LIBRARY:
             self.skipTest("tests/pytests.py names no archive of the library")
 
@@ -177,7 +165,7 @@ class Packages(unittest.TestCase):
 
     def test_the_library(self) -> None:
         """In a clean folder, the program of its page is compiled as the page says, and prints what the page shows."""
-        wants(self, "cc", "pkg-config")
+        wants("cc", "pkg-config")
         with tempfile.TemporaryDirectory() as system:
             for name in ("librtfilter0", "librtfilter-dev"):
                 run("dpkg", "-x", self.packages[name], system)
@@ -212,7 +200,7 @@ class Packages(unittest.TestCase):
 
     def test_a_crate_over_the_package(self) -> None:
         """A new crate in a clean folder builds and runs the program of the page."""
-        wants(self, "cargo", "pkg-config")
+        wants("cargo", "pkg-config")
         program, printed = self.page("bindings/rust/README.md", "rust")
         with tempfile.TemporaryDirectory() as system:
             words = {**self.installed_library(system), "CARGO_TARGET_DIR": f"{system}/target"}
@@ -227,7 +215,7 @@ class Packages(unittest.TestCase):
 
     def test_a_module_over_the_package(self) -> None:
         """A new module in a clean folder builds and runs the program of the page."""
-        wants(self, "go", "pkg-config", "cc")
+        wants("go", "pkg-config", "cc")
         program, printed = self.page("bindings/go/README.md", "go")
         with tempfile.TemporaryDirectory() as system:
             words = {**self.installed_library(system), "GOPATH": f"{system}/path", "GOCACHE": f"{system}/cache", "GOPROXY": "off"}
@@ -245,13 +233,13 @@ class Packages(unittest.TestCase):
         self.assertIn("rt_filter", run("objdump", "--syms", symbols))
 
     def test_by_lintian(self) -> None:
-        wants(self, "lintian")
+        wants("lintian")
         report = run("lintian", "--allow-root", "--fail-on", "error", *self.packages.values()).splitlines()
         self.assertEqual([line for line in report if not any(tag in line for tag in FINE)], [])
 
     def test_installed_and_removed(self) -> None:
         """In a folder that stands for the system, which has the library in a version that is old enough, or not."""
-        wants(self, "dpkg")
+        wants("dpkg")
         if os.geteuid() != 0:
             self.skipTest("root: the scripts of packages run in a folder that stands for the system")
         path = f"{os.environ['PATH']}:/usr/sbin:/sbin"  # dpkg looks for tools there, whether it needs them or not
@@ -286,7 +274,7 @@ class Packages(unittest.TestCase):
 
     def test_the_service_of_systemd(self) -> None:
         """Its user and the folder of its table are made; what it is told in /etc/default are words of its command."""
-        wants(self, "systemd-analyze")
+        wants("systemd-analyze")
         tree, control = self.scratch / "rtfilter-service", self.scratch / "control"
         run("dpkg-deb", "--control", self.packages["rtfilter-service"], control)
         self.assertEqual((control / "conffiles").read_text(), "/etc/default/rtfilter-service\n")
@@ -312,7 +300,7 @@ class Packages(unittest.TestCase):
 
     def test_an_upgrade_restarts_what_runs(self) -> None:
         """A first installation starts nothing. A purge stops what runs, instances too."""
-        wants(self, "dpkg", "deb-systemd-invoke")
+        wants("dpkg", "deb-systemd-invoke")
         if os.geteuid() != 0:
             self.skipTest("root: the scripts of packages run in a folder that stands for the system")
         with tempfile.TemporaryDirectory() as folder:

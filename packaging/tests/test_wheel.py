@@ -10,8 +10,8 @@ import unittest
 import zipfile
 from pathlib import Path
 
-from support import DATA, PACKAGE, PROGRAM, ROOT
-from test_package import LIBRARY, VERSION, run, wants
+from support import DATA, PACKAGE, PROGRAM, ROOT, wants
+from test_package import LIBRARY, VERSION, run
 
 MAKE = ROOT / "packaging/make_wheel.py"
 PREFORK = Path(PROGRAM).with_name("rtfilter-prefork.so")
@@ -25,7 +25,7 @@ print(rtfilter.__version__, Rtfilter("boxes.csv").find(Window(0, 10, 0, 10)), rt
 
 class Wheel(unittest.TestCase):
     def setUp(self) -> None:
-        wants(self, "gcc", "objdump", "strip")
+        wants("gcc", "objdump", "strip")
         if not LIBRARY:
             self.skipTest("tests/pytests.py names no archive of the library")
         self.folder = Path(self.enterContext(tempfile.TemporaryDirectory()))

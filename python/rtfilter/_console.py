@@ -12,8 +12,9 @@ INTERRUPTED = 130  # the status, as shells have it
 
 def say(command: str, text: str) -> None:
     """Writes a line of a command to standard error, which may be closed."""
-    with contextlib.suppress(OSError, ValueError, AttributeError):
-        print(f"{command}: {text}", file=sys.stderr, flush=True)
+    if sys.stderr is not None:  # as for which `print` would take standard output
+        with contextlib.suppress(OSError, ValueError):
+            print(f"{command}: {text}", file=sys.stderr, flush=True)
 
 
 def reason(error: BaseException) -> str:

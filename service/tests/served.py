@@ -13,13 +13,13 @@ import tempfile
 import threading
 import time
 import unittest
-from collections.abc import Callable, Iterable, Iterator
+from collections.abc import Iterable, Iterator
 from pathlib import Path
 from typing import Any
 
 import random_runs
 from prefork import library_of
-from support import DATA, PROGRAM, ROOT
+from support import DATA, PROGRAM, ROOT, found, until, wants
 
 SERVICE = ROOT / "service/serve.py"
 BOXES = DATA / "boxes.csv"
@@ -29,16 +29,6 @@ TRIES = "-include", Path(__file__).with_name("tries.h")
 SYSTEM_PYTHON = "/usr/bin/python3"  # which other users may run too
 MOMENT = re.compile(r"^\d{4}-\d\d-\d\dT\d\d:\d\d:\d\dZ ", re.MULTILINE)  # at which a line was logged
 LONG = 20.0  # seconds after which what is waited for doesn't come
-
-
-
-def until(is_so: Callable[[], object], what: str) -> None:
-    """Waits until something is so."""
-    end = time.monotonic() + LONG
-    while not is_so():
-        if time.monotonic() > end:
-            raise AssertionError(f"{what} doesn't come")
-        time.sleep(0.005)
 
 
 def state_of(process: int) -> tuple[str, int]:
@@ -59,14 +49,6 @@ def children_of(process: int) -> list[int]:
 def is_there(process: int) -> bool:
     """Whether a process runs: one that has ended may still be waited for."""
     return state_of(process)[0] not in "ZX"
-
-
-def found(pattern: str, text: str, flags: int = 0) -> re.Match[str]:
-    """Where a text has a part that matches, as it is to have."""
-    match = re.search(pattern, text, flags)
-    if match is None:
-        raise AssertionError(f"{pattern} isn't in {text}")
-    return match
 
 
 def send(number: int, processes: Iterable[int]) -> None:
@@ -232,8 +214,7 @@ class Case(unittest.TestCase):
     def preload(self, text: str) -> tuple[dict[str, str], Path]:
         """An environment in which a library of this source is loaded before others, and the file FLAG of that: while it is
         there, a call of the system is to fail."""
-        if shutil.which("cc") is None:
-            self.skipTest("a C compiler: not installed")
+        wants("cc")
         source, library, flag = (Path(self.folder, name) for name in ("preload.c", "preload.so", "flag"))
         source.write_text(text)
         subprocess.run(["cc", "-shared", "-fPIC", "-o", library, source], check=True)

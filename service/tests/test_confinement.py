@@ -9,7 +9,8 @@ import subprocess
 import unittest
 from pathlib import Path
 
-from served import BOXES, FLAGS, SOURCE, TRIES, Case, found, output_of_program, table_of, until
+from served import BOXES, FLAGS, SOURCE, TRIES, Case, output_of_program, table_of
+from support import found, until, wants
 
 CALLS = {"read", "write", "munmap", "brk", "exit_group"}
 ERROR_OF_VALGRIND = 99
@@ -60,8 +61,7 @@ class Confinement(Case):
 
     def test_calls(self) -> None:
         """What strace sees, of every kind of line, to the end."""
-        if shutil.which("strace") is None:
-            self.skipTest("strace: not installed")
+        wants("strace")
         table = table_of(self.folder, "many", 0, 100_000)
         service = self.served(table)
         trace = Path(self.folder, "trace")
@@ -84,8 +84,7 @@ class Confinement(Case):
 
     def test_by_valgrind(self) -> None:
         """The test build without the filter: no fault, in the program and in connections."""
-        if shutil.which("valgrind") is None:
-            self.skipTest("valgrind: not installed")
+        wants("valgrind")
         program = self.build("-g", "-DUNCONFINED")
         wrapped = Path(self.folder, "rtfilter")
         logs = Path(self.folder, "valgrind")

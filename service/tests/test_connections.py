@@ -16,6 +16,7 @@ from served import (
     BOXES, PROGRAM, Case, Served, all_of, answers, found, read_lines, send, some_pieces,
     some_queries, table_of, talk, output_of_program, until,
 )  # fmt: skip
+from support import seconds_of
 
 RESET = struct.pack("2i", 1, 0)  # of SO_LINGER: a close sends a reset
 NO_FORK = """
@@ -30,6 +31,21 @@ pid_t fork(void)
     return syscall(SYS_fork);
   errno = EAGAIN;
   return -1;
+}
+"""
+
+
+NO_GROUP = """
+#define _GNU_SOURCE
+#include <signal.h>
+#include <stdlib.h>
+#include <sys/syscall.h>
+#include <unistd.h>
+int setpgid(pid_t process, pid_t group)
+{
+  if (!access(getenv("FLAG"), F_OK))
+    kill(getpid(), SIGKILL);
+  return syscall(SYS_setpgid, process, group);
 }
 """
 
@@ -292,6 +308,17 @@ class WantOfRoom(Case):
         self.assert_well(service)
         until(lambda: service.open_files == before, "nothing left open")
 
+    def test_a_program_that_is_killed_as_it_starts(self) -> None:
+        """Before it leads a group of processes: the load has failed, and the next one is made."""
+        environment, flag = self.preload(NO_GROUP)
+        service = self.served(env=environment)
+        flag.touch()
+        service.signal(signal.SIGHUP)
+        service.logs("^the new table isn't taken, the old one stays: the program has ended, with status -9$")
+        flag.unlink()
+        service.exchange()
+        self.assert_well(service)
+
     def test_descriptors(self) -> None:
         """Where the service has no descriptor left, new connections wait, that is logged once, and nothing is busy."""
         service = self.served(BOXES, before=["prlimit", "--nofile=24"])
@@ -300,9 +327,9 @@ class WantOfRoom(Case):
             askers = [stack.enter_context(service.connect()) for _ in range(40)]
             service.logs("^no connection accepted: Too many open files$")
             until(lambda: len(service.connections) in range(10, 24), "a process for each that was accepted")
-            spent = sum(map(times_of, processes))
+            spent = sum(map(seconds_of, processes))
             time.sleep(1)
-            self.assertLess(sum(map(times_of, processes)) - spent, 0.1)
+            self.assertLess(sum(map(seconds_of, processes)) - spent, 0.1)
             self.assertEqual(service.log.count("no connection accepted"), 1)
             for asker in askers:  # each comes in turn, as others leave
                 self.count(asker)
@@ -322,9 +349,3 @@ class WantOfRoom(Case):
                 self.count(asker)
                 asker.close()
         until(lambda: len(service.programs) == 1, "the end of the old table")
-
-
-def times_of(process: int) -> float:
-    """Seconds of processor time that a process has taken."""
-    fields = Path(f"/proc/{process}/stat").read_text().rpartition(")")[2].split()
-    return (int(fields[11]) + int(fields[12])) / os.sysconf("SC_CLK_TCK")

@@ -102,6 +102,26 @@ class Control(Case):
             with contextlib.suppress(ConnectionResetError):  # what it wrote was left unread
                 self.assertEqual(asker.recv(1), b"")
 
+    def test_a_service_that_ends_without_a_program(self) -> None:
+        """It waits for no connection that the last program was given and hadn't begun, whichever of the two ends first."""
+        table = table_of(self.folder, "table", 0, 5)
+        for is_program_first in (True, False):
+            table_of(self.folder, "table", 0, 5)
+            service = self.served(table, "--drain", "60", "--health", "0")
+            stop(service.programs)
+            self.opened(service, 3)
+            until(lambda: service.metric("rtfilter_connections") == 3, "all of them")
+            table.unlink()
+            if is_program_first:
+                send(signal.SIGKILL, service.programs)
+                service.logs("^the new table isn't taken, there is none: ")
+            service.signal(signal.SIGTERM)
+            if not is_program_first:
+                until(lambda: service.metric("rtfilter_ready") == 0, "the end of the table")
+                send(signal.SIGKILL, service.programs)
+            self.assertEqual(service.process.wait(10), 0)
+            self.assertEqual(len(service.logs(r"^connection [123] \(.*\): signal=9 ", 3)), 3)
+
     def test_ends_while_the_service_is_stopped(self) -> None:
         """More than the program can report at once: all are reported afterwards, and places are free."""
         service = self.served(BOXES, "--connections", str(MANY))

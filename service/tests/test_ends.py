@@ -1,9 +1,13 @@
 """Ends of processes, and what is left then."""
 
+import fcntl
+import itertools
 import os
 import random
 import signal
 import socket
+import struct
+import termios
 import threading
 import time
 from pathlib import Path
@@ -67,6 +71,35 @@ class Ends(Case):
             self.assertIsNone(service.process.poll())
             service.signal(signal.SIGINT)
             self.assertEqual(service.process.wait(10), 0)
+
+    def test_two_signals_at_once(self) -> None:
+        """The second is urgent, however soon after the first it comes."""
+        for _ in range(8):
+            service = self.served(table_of(self.folder, "many", 0, 100_000), "--drain", "60")
+            with service.connect() as reads_nothing:
+                reads_nothing.sendall(b"find all\n" * 50)
+                self.assertTrue(reads_nothing.recv(1))
+                stop([service.process.pid])
+                for number in (signal.SIGTERM, signal.SIGINT, signal.SIGCONT):
+                    service.signal(number)
+                self.assertEqual(service.process.wait(10), 0)
+
+    def test_a_part_of_a_line_at_the_end(self) -> None:
+        """Its connection was open for longer than `--silence`, and is not said to have been silent."""
+        service = self.served(BOXES, "--silence", "2")
+        with service.connect() as asker:
+            begun = time.monotonic()
+            for at in itertools.count(1):
+                self.count(asker, at=at)
+                if time.monotonic() > begun + 2.2:
+                    break
+                time.sleep(0.1)
+            asker.sendall(b"count al")
+            until(lambda: not unread(asker), "its read")
+            service.signal(signal.SIGTERM)
+            self.assertEqual(asker.recv(100), b"")
+        self.assertEqual(service.process.wait(10), 0)
+        service.logs(r"^connection 1 \(.*\): status=4 ")
 
     def test_who_connects_while_it_ends(self) -> None:
         """Waits for the next service, where the socket stays: here a process of the program's ends only when it may."""
@@ -235,43 +268,33 @@ class Ends(Case):
             self.assert_well(service)
             self.assertLess(time.monotonic() - begun, 1)
 
-    def test_a_table_that_does_not_load(self) -> None:
-        for text, status, message in (
-            ("1,1,0,0,0\n", 3, f"{self.folder}/table: table record 1: minimum above maximum in x"),
-            (None, 3, f"{self.folder}/table: cannot open table: No such file or directory"),
-            ("1,0,1,0,1\n", 2, "rtfilter: bad command line"),
-        ):
-            table = Path(self.folder, "table")
-            table.unlink(missing_ok=True)
-            if text is not None:
-                table.write_text(text)
-            words = ["--fanout", "4", "--fanout", "5"] if status == 2 else []
-            service = self.served(table, *words)
-            self.assertEqual(service.process.wait(10), status)
-            self.assertEqual(service.log, f"listening on {service.path}\n{message}\n")
-            self.assertFalse(os.path.exists(service.path))
-
-    def test_a_first_load_that_takes_too_long(self) -> None:
-        table = Path(self.folder, "table")
-        os.mkfifo(table)
-        service = self.served(table, "--load-timeout", "0.3", is_ready=False)
-        self.assertEqual(service.process.wait(10), 1)
-        service.logs(f"^{table}: not loaded in 0.3 seconds$")
-
-    def test_connections_that_cannot_be_set_up(self) -> None:
-        """There is no service, and their status is reported."""
-        broken = Path(self.folder, "broken.h")
+    def test_a_first_load_that_fails(self) -> None:
+        """There is no service: its status, and the reason. The table is faulty, missing, or doesn't come; the options are faulty; the
+        program is another one, or can't set connections up."""
+        broken, other = Path(self.folder, "broken.h"), Path(self.folder, "other")
         broken.write_text("#define _GNU_SOURCE\n#include <unistd.h>\n#define close_range(first, last, flags) -1\n")
-        service = self.served(program=self.build("-include", broken), is_ready=False)
-        self.assertEqual(service.process.wait(10), 1)
-        service.logs("^it can't serve a connection: status 71$")
-
-    def test_what_is_no_such_program(self) -> None:
-        """One that never begins to serve."""
-        program = Path(self.folder, "rtfilter")
-        program.write_text("#!/bin/sh\necho nonsense\nexit 0\n")
-        program.chmod(0o700)
+        other.write_text("#!/bin/sh\necho nonsense\nexit 0\n")
+        other.chmod(0o700)
         put_library(Path(self.folder))
-        service = self.served(program=str(program))
-        self.assertEqual(service.process.wait(10), 1)
-        service.logs("^the program has ended, with status 0$")
+        faulty, missing, pipe = (Path(self.folder, name) for name in ("faulty", "missing", "pipe"))
+        faulty.write_text("1,1,0,0,0\n")
+        os.mkfifo(pipe)
+        for table, words, program, status, message in (
+            (faulty, [], PROGRAM, 3, f"{faulty}: table record 1: minimum above maximum in x"),
+            (missing, [], PROGRAM, 3, f"{missing}: cannot open table: No such file or directory"),
+            (pipe, ["--load-timeout", "0.3"], PROGRAM, 1, f"{pipe}: not loaded in 0.3 seconds"),
+            (BOXES, ["--fanout", "4", "--fanout", "5"], PROGRAM, 2, "rtfilter: bad command line"),
+            (BOXES, [], str(other), 1, "nonsense\nthe program has ended, with status 0"),
+            (BOXES, [], self.build("-include", broken), 1, "it can't serve a connection: status 71"),
+        ):
+            with self.subTest(message):
+                service = self.served(table, *words, program=program, is_ready=False)
+                self.assertEqual(service.process.wait(10), status)
+                self.assertEqual(service.log, f"listening on {service.path}\n{message}\n")
+                self.assertFalse(os.path.exists(service.path))
+
+
+def unread(asker: socket.socket) -> int:
+    """How many bytes that were sent over a Unix socket haven't been read."""
+    (count,) = struct.unpack("i", fcntl.ioctl(asker, termios.TIOCOUTQ, bytes(4)))
+    return int(count)

@@ -3,6 +3,7 @@
 import contextlib
 import os
 import re
+import shutil
 import signal
 import socket
 import subprocess
@@ -10,7 +11,7 @@ import sys
 import time
 from pathlib import Path
 
-from served import BOXES, MOMENT, PROGRAM, SERVICE, Case, Served, read_lines, table_of, until
+from served import BOXES, MOMENT, PROGRAM, SERVICE, Case, Served, put_library, read_lines, stop, table_of, until
 
 HEAD = re.compile(
     rb"HTTP/1\.0 (\d{3}) [A-Za-z ]+\r\nContent-Type: text/plain; version=0\.0\.4; charset=utf-8\r\n"
@@ -109,6 +110,44 @@ class Health(Case):
         fault = "table record 6: too many entries; docs/scaling.md says what holds more boxes"
         service.logs(f"^the new table isn't taken, the old one stays: {table}: {fault}$")
         self.assertEqual([service.metric(f"rtfilter_{it}") for it in ("table_generation", "loads_failed_total")], [2, 1])
+
+    def test_loads_that_do_not_begin(self) -> None:
+        """They have failed, too: the program is gone, as while a package is exchanged."""
+        program = Path(shutil.copy(PROGRAM, self.folder))
+        put_library(Path(self.folder))
+        service = self.served(BOXES, "--health", "0", program=str(program))
+        program.unlink()
+        service.signal(signal.SIGHUP)
+        service.logs(f"^the new table isn't taken, the old one stays: the program can't be started: {program}: No such file or directory$")
+        self.assertEqual(service.metric("rtfilter_loads_failed_total"), 1)
+        self.assert_well(service)
+
+    def test_an_end_while_a_client_asks(self) -> None:
+        """It says nothing of that, in whatever Python."""
+        for python in {sys.executable, shutil.which("python3") or sys.executable}:
+            service = self.served(BOXES, "--health", "0", python=python)
+            with socket.create_connection(service.place("health")) as asker:
+                asker.sendall(HEALTH)
+                self.assertEqual(service.get("/health")[0], 200)
+                service.signal(signal.SIGTERM)
+                self.assertEqual(service.process.wait(10), 0)
+            self.assertEqual(len(service.log.splitlines()), 3, service.log)
+
+    def test_more_clients_than_descriptors(self) -> None:
+        """Those that come at once have them tried again and again, which is logged once, and leave no trace."""
+        service = self.served(BOXES, "--health", "0", before=["prlimit", "--nofile=64"])
+        with contextlib.ExitStack() as stack:
+            stop([service.process.pid])
+            for _ in range(150):
+                asker = stack.enter_context(socket.socket())
+                asker.setblocking(False)
+                asker.connect_ex(service.place("health"))
+            service.signal(signal.SIGCONT)
+            service.logs("Too many open files$")
+            time.sleep(1.5)  # in which it tries again
+        until(lambda: service.get("/health") == (200, "ready\n"), "a descriptor")
+        self.assert_well(service)
+        self.assertEqual(service.log.count("Too many open files"), 1)
 
     def test_busy_seconds(self) -> None:
         """From a read of lines to the next read: a search and its writes, and no wait for lines."""

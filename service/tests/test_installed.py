@@ -3,13 +3,13 @@
 import configparser
 import os
 import re
-import shutil
 import signal
 import socket
 import subprocess
 from pathlib import Path
 
-from served import BOXES, MOMENT, PROGRAM, ROOT, Case, found, talk
+from served import BOXES, MOMENT, PROGRAM, ROOT, Case, talk
+from support import found, wants
 
 UNITS = ROOT / "service/rtfilter.socket", ROOT / "service/rtfilter.service"
 PLAIN = {"PATH": "/usr/bin:/bin"}
@@ -58,8 +58,7 @@ class Installed(Case):
         self.assertEqual((units[1]["Unit"]["Requires"], units[1]["Service"]["Type"]), ("rtfilter.socket", "notify"))
         words = units[1]["Service"]["ExecStart"].replace("/usr/local", str(self.place)).split()
         self.assertTrue(os.access(words[0], os.X_OK) and os.access(words[words.index("--program") + 1], os.X_OK), words)
-        if shutil.which("systemd-analyze") is None:
-            self.skipTest("systemd-analyze: not installed")
+        wants("systemd-analyze")
         for unit in UNITS:
             text = unit.read_text().replace("/usr/local", str(self.place))
             Path(self.folder, unit.name).write_text(text)
@@ -80,9 +79,7 @@ class Installed(Case):
 class AsUnit(Case):
     def test_calls_that_its_unit_allows(self) -> None:
         """The service, its programs and its connections make no others."""
-        for tool in ("strace", "systemd-analyze"):
-            if shutil.which(tool) is None:
-                self.skipTest(f"{tool}: not installed")
+        wants("strace", "systemd-analyze")
         trace = Path(self.folder, "trace")
         before = ["strace", "-f", "-qq", "-o", str(trace), "--interruptible=never"]
         service = self.served(BOXES, "--tcp", "0", "--health", "0", before=before)

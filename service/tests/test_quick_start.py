@@ -11,6 +11,7 @@ from pathlib import Path
 from typing import Any
 
 from served import BOXES, MOMENT, PROGRAM, ROOT, Case
+from support import wants
 
 QUICK_START, PAGE = ROOT / "docs/quick-start.md", ROOT / "docs/service.md"
 STARTED = re.compile(r"^```\n\$ (rtfilter-serve .*) &\n((?:.*\n)*?)```$", re.MULTILINE)
@@ -45,8 +46,7 @@ class Typed(Case):
         self.assertFalse(os.path.lexists(f"{self.folder}/boxes.socket"))
 
     def typed(self, command: str) -> str:
-        if shutil.which("nc") is None:
-            self.skipTest("nc: not installed")
+        wants("nc")
         return subprocess.run(command, stdout=subprocess.PIPE, timeout=60, **self.words).stdout
 
     def test_the_page(self) -> None:

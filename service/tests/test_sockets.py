@@ -35,7 +35,7 @@ class Sockets(Case):
                 self.assertEqual(stat.S_IMODE(os.stat(service.path).st_mode), mode)
 
     def test_a_path_that_was_left(self) -> None:
-        """A socket on which nobody listens is replaced; another service's isn't, loading or not, and neither is a file."""
+        """A socket on which nobody listens is replaced; another service's isn't, and neither is a file."""
         with socket.socket(socket.AF_UNIX) as left:
             left.bind(str(Path(self.folder, "socket")))
         service = self.served()
@@ -44,14 +44,12 @@ class Sockets(Case):
         link.symlink_to(Path(self.folder, "nowhere"))
         other = "rtfilter-serve: --unix {}: it is no socket, and isn't replaced: choose another path\n"
         in_use = "rtfilter-serve: --unix {}: another service listens there: choose another path\n"
-        for path, message in ((service.path, in_use), (str(BOXES), other), (str(link), other), (self.folder, other)):
+        no_folder = "rtfilter-serve: --unix {}: its folder doesn't exist: make it, or choose another path\n"
+        for path, message in (
+            (service.path, in_use), (str(BOXES), other), (str(link), other), (self.folder, other), (f"{self.folder}/none/socket", no_folder),
+        ):  # fmt: skip
             self.assertEqual(run("--unix", path, BOXES), (1, message.format(path)))
         self.assert_well(service)
-
-    def test_a_folder_that_is_not_there(self) -> None:
-        path = f"{self.folder}/none/socket"
-        message = f"rtfilter-serve: --unix {path}: its folder doesn't exist: make it, or choose another path\n"
-        self.assertEqual(run("--unix", path, BOXES), (1, message))
 
     def test_a_folder_of_another_user(self) -> None:
         self.need_another_user()

@@ -8,7 +8,7 @@ import unittest
 from pathlib import Path
 from unittest import mock
 
-from support import DATA, PROGRAM, ROOT
+from support import DATA, PROGRAM, ROOT, wants
 
 import pages
 from postgres import server
@@ -33,9 +33,7 @@ def sections() -> dict[str, tuple[set[str], list[tuple[str, str]]]]:
 
 class Recipes(unittest.TestCase):
     def run_section(self, tools: set[str], examples: list[tuple[str, str]]) -> None:
-        missing = sorted(tool for tool in tools if shutil.which(tool) is None)
-        if missing:
-            self.skipTest(f"{', '.join(missing)}: not installed")
+        wants(*sorted(tools))
         scratch = Path(self.enterContext(tempfile.TemporaryDirectory()))
         path, folder = scratch / "bin", scratch / "examples"
         shutil.copytree(DATA, folder)

@@ -126,7 +126,7 @@ def resumed(file: str, devices: Devices) -> Past:
 def answer(fence: Fence, number: int) -> None:
     """Answers each read of the input before the next one. The first line has this number."""
     part = b""
-    while piece := os.read(INPUT, READ):
+    while piece := read():
         *lines, part = (part + piece).split(b"\n")
         # (of a line that is too long no more is kept than shows that)
         part = part[: LONGEST_LINE + 1]
@@ -135,6 +135,14 @@ def answer(fence: Fence, number: int) -> None:
     lines = [part] if part else []
     write(fence.events(number, lines))
     fence.end(number + len(lines) - 1)
+
+
+def read() -> bytes:
+    """Some of the input; nothing at its end. Raises ValueError where that fails."""
+    try:
+        return os.read(INPUT, READ)
+    except OSError as error:
+        raise ValueError(f"standard input: {error.strerror}") from error
 
 
 def write(text: bytes) -> None:

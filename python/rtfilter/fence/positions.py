@@ -2,6 +2,7 @@
 
 import re
 import sys
+from codecs import BOM_UTF8
 from math import inf
 from typing import NamedTuple
 
@@ -33,9 +34,11 @@ class Refusal(NamedTuple):
 
 def positions_of(first: int, lines: list[bytes]) -> tuple[list[Position], list[Refusal]]:
     """The positions in lines, of which the first has this number, and the lines that are none. Blank lines and comments are
-    neither."""
+    neither. A byte order mark before line 1 is none of it."""
     positions: list[Position] = []
     refusals: list[Refusal] = []
+    if first == 1:
+        lines = [it.removeprefix(BOM_UTF8) for it in lines[:1]] + lines[1:]
     for line, text in enumerate(lines, first):
         match = LINE.fullmatch(text)
         if match is None or len(text) > LONGEST_LINE:

@@ -6,10 +6,14 @@ import errno
 import hashlib
 import logging
 import logging.handlers
+import os
 import signal
+import sys
+import time
 from pathlib import Path
 
 from aiohttp import web
+from aiohttp.http import HttpProcessingError
 
 from .. import __version__
 from .._console import Parser, reason, say, whole
@@ -21,6 +25,39 @@ NAME = "rtfilter-tiles"
 ACCESSES = logging.getLogger("rtfilter.tiles")
 COMMON_LOG_FORMAT = '%a - - %t "%r" %s %b'
 SHUTDOWN = 10.0  # seconds for requests that are under way at the end
+BETWEEN_COMPLAINTS = 10.0  # seconds
+ENDS = signal.SIGTERM, signal.SIGINT
+
+
+class Complaints:
+    """What may be wrong at each request is said once in a while."""
+
+    def __init__(self) -> None:
+        self._last = -BETWEEN_COMPLAINTS
+
+    def say(self, text: str) -> None:
+        if time.monotonic() >= self._last + BETWEEN_COMPLAINTS:
+            self._last = time.monotonic()
+            say(NAME, text)
+
+
+class AccessLog(logging.handlers.WatchedFileHandler):
+    """A log in a file, which is opened anew where another one stands in its place. A line that can't be written is dropped."""
+
+    def __init__(self, name: str) -> None:
+        super().__init__(name, encoding="utf-8", errors="backslashreplace")
+        self._name, self._complaints = name, Complaints()
+
+    def emit(self, record: logging.LogRecord) -> None:
+        try:
+            super().emit(record)
+        except OSError:  # as it is opened
+            self.handleError(record)
+
+    def handleError(self, record: logging.LogRecord) -> None:
+        error = sys.exc_info()[1]
+        why = error.strerror if isinstance(error, OSError) else error
+        self._complaints.say(f"--log {self._name}: lines are lost: {why}")
 
 
 def arguments() -> argparse.Namespace:
@@ -34,7 +71,7 @@ def arguments() -> argparse.Namespace:
     parser.add_argument("--port", type=whole(0, 65535), default=8080, metavar="PORT", help="port to listen on, 0 for any free one (default 8080)")
     parser.add_argument("--reuse-port", action="store_true", help="let several processes listen on the port, each with its own table")
     parser.add_argument("--host", action="append", default=[], metavar="NAME", help="another name of this server, as behind a proxy; may be repeated")
-    parser.add_argument("--url", metavar="URL", help="the server's address behind a proxy, with a slash at its end (default http and the Host)")
+    parser.add_argument("--url", type=with_slash, metavar="URL", help="the server's address behind a proxy, as https://example.org/map/ (default http and the Host)")
     parser.add_argument(
         "--origin", action="append", default=[], metavar="ORIGIN",
         help="origin whose pages may read replies, as https://maps.example.org, * for any, null for files; may be repeated",
@@ -48,11 +85,19 @@ def arguments() -> argparse.Namespace:
     return parser.parse_args()
 
 
+def with_slash(address: str) -> str:
+    """An address with a slash at its end."""
+    return address.rstrip("/") + "/"
+
+
 def main() -> int:
     """Runs the command. Returns its exit status."""
     args = arguments()
+    for number in ENDS:  # until requests are answered: a load may be long
+        signal.signal(number, signal.SIG_DFL)
     try:
         log_accesses(args.log)
+        logging.getLogger("aiohttp.server").addFilter(is_own_fault)
         asyncio.run(serve(args))
     except (OSError, ValueError, MemoryError) as error:
         say(NAME, reason(error))
@@ -61,12 +106,14 @@ def main() -> int:
 
 
 async def serve(args: argparse.Namespace) -> None:
-    """Loads the table and answers until SIGTERM or SIGINT. Raises why it can't."""
+    """Loads the table, answers until SIGTERM or SIGINT, and ends the process. Raises why it can't."""
     end, again, loop = asyncio.Event(), asyncio.Event(), asyncio.get_running_loop()
+    complaints = Complaints()
+    loop.set_exception_handler(lambda _, it: complaints.say(f"{it['message']}: {it.get('exception')}"))
     loop.add_signal_handler(signal.SIGHUP, again.set)
     hosts: set[str] = set()
     server = Server(loaded(args), hosts, {*args.origin}, args.url, args.max_age)
-    for number in (signal.SIGTERM, signal.SIGINT):
+    for number in ENDS:
         loop.add_signal_handler(number, end.set)
     runner = web.AppRunner(server.app(), access_log=ACCESSES if args.log else None, access_log_format=COMMON_LOG_FORMAT)
     await runner.setup()
@@ -74,15 +121,17 @@ async def serve(args: argparse.Namespace) -> None:
     try:
         await listen(runner, args)
         port = runner.addresses[0][1]
+        own = f"[{args.listen}]" if ":" in args.listen else args.listen
         # A name may come without the port, as it does for port 80 and behind a proxy.
-        for name in (*args.host, "localhost", "127.0.0.1", args.listen):
+        for name in (*args.host, "localhost", "127.0.0.1", own):
             hosts |= {name.lower(), f"{name}:{port}".lower()}
         loading = asyncio.create_task(keep_loaded(args, server, again))
-        print(f"http://{args.listen}:{port}/", flush=True)
+        print(f"http://{own}:{port}/", flush=True)
         await end.wait()
         loading.cancel()
     finally:
         await runner.cleanup()
+    os._exit(0)  # a thread that loads is waited for otherwise, as long as that takes
 
 
 async def listen(runner: web.AppRunner, args: argparse.Namespace) -> None:
@@ -124,7 +173,16 @@ def log_accesses(name: str | None) -> None:
     if name is not None:
         handler: logging.Handler = logging.StreamHandler()
         if name != "-":
-            handler = logging.handlers.WatchedFileHandler(name, encoding="utf-8")
+            handler = AccessLog(name)
         ACCESSES.addHandler(handler)
         ACCESSES.setLevel(logging.INFO)
     ACCESSES.propagate = False
+
+
+def is_own_fault(record: logging.LogRecord) -> bool:
+    """Whether aiohttp logs a fault of this server, with its traceback. A request that isn't HTTP is said in one line."""
+    error = record.exc_info and record.exc_info[1]
+    if not isinstance(error, HttpProcessingError):
+        return True
+    say(NAME, f"a request that isn't HTTP: {error!s:.200}")
+    return False

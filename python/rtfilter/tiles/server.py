@@ -23,6 +23,7 @@ LEAST_PACKED = 256  # bytes: fewer aren't worth it
 PAGES = {"/": ("page.html", "text/html"), "/page.js": ("page.js", "text/javascript"), "/page.css": ("page.css", "text/css")}
 TILE = re.compile(r"/(0|[1-9][0-9]?)/(0|[1-9][0-9]{0,6})/(0|[1-9][0-9]{0,6})\.pbf")
 NUMBER = re.compile(r"-?[0-9]{1,10}")
+LINE = re.compile(r"[^\n\ud800-\udfff]*")
 LAYERS = re.compile(r"[0-9]{1,2}(,[0-9]{1,2}){0,63}")
 GZIP = re.compile(r"(^|[\s,])gzip\s*(?!\s*;\s*q=0(\.0*)?\s*(,|$))(;|,|$)", re.IGNORECASE)
 HEADERS = {
@@ -86,16 +87,14 @@ class Server:
     async def _checked(self, request: web.Request, handler: Handler) -> web.StreamResponse:
         try:
             self._check(request)
-            response = await handler(request)
+            return await handler(request)
         except web.HTTPException as refused:
             allowed = {"Allow": ", ".join(METHODS)} if isinstance(refused, web.HTTPMethodNotAllowed) else {}
-            response = web.Response(status=refused.status, text=refused.reason, headers=allowed)
+            return web.Response(status=refused.status, text=refused.reason, headers=allowed)
         except QueryError as fault:
-            response = web.Response(status=400, text=f"{fault.code} {fault.text}")
+            return web.Response(status=400, text=f"{fault.code} {fault.text}")
         except MemoryError:
-            response = web.Response(status=503, text="out of memory")
-        self._replies[response.status] += 1
-        return response
+            return web.Response(status=503, text="out of memory")
 
     def _check(self, request: web.Request) -> None:
         """Raises where a request is for another host, or of a page that may not read the reply."""
@@ -121,6 +120,7 @@ class Server:
         return origin if origin in self._origins else None
 
     async def _prepare(self, request: web.Request, response: web.StreamResponse) -> None:
+        self._replies[response.status] += 1
         response.headers.extend(self._headers)
         response.headers.setdefault("Cache-Control", "no-cache")
         if allowed := self._allowed(request.headers.get("Origin")):
@@ -172,8 +172,9 @@ class Server:
 
     async def _ask(self, request: web.Request) -> web.Response:
         line = parameters(request.query, "q").get("q")
-        if line is None or "\n" in line:
-            raise web.HTTPBadRequest(reason="q is one query line")
+        # (bytes that are no UTF-8 come as surrogates)
+        if line is None or not LINE.fullmatch(line):
+            raise web.HTTPBadRequest(reason="q is one query line, in UTF-8")
         answer = await asyncio.to_thread(self.served.views.ask, line)
         return reply(request, "application/json", json_of(answer))
 

@@ -103,8 +103,9 @@ def test_positions_that_are_not_taken(zones: Path) -> None:
 
 
 def test_lines_that_are_no_positions(zones: Path) -> None:
-    """Each is refused by its number, with the field and the word; blank lines and comments are counted."""
-    sound = b'd,1,1,1\n\n# d,1,1,1\n \t\r\n"a, b",1,1,1\r\n\xc3\xa9,1.5e0,1,1\n'
+    """Each is refused by its number, with the field and the word; blank lines and comments are counted. A byte order mark is no part
+    of the first name."""
+    sound = b'\xef\xbb\xbfd,1,1,1\n\n# d,1,1,1\n \t\r\n"a, b",1,1,1\r\n\xc3\xa9,1.5e0,1,1\n'
     events = run(zones, sound + b"".join(line + b"\n" for line in FAULTY) + b"last,1,1,1")
     assert [it["device"] for it in events[:3]] == ["d", "a, b", "\u00e9"]
     assert [it["line"] for it in events] == [1, 5, 6, *range(7, 7 + len(FAULTY) + 1)]

@@ -1,13 +1,11 @@
 """What a fence does while it runs: zones are exchanged, signals end it, readers leave or are slow."""
 
-import errno
 import os
 import queue
 import random
 import signal
 import subprocess
 import threading
-import time
 from collections.abc import Callable, Iterator
 from contextlib import ExitStack
 from pathlib import Path
@@ -15,7 +13,7 @@ from typing import Any
 
 import pytest
 from fences import COMMAND, Running, brief, feature, square, write_zones
-from support import LONGEST, environment
+from support import LONGEST, environment, opened_for_writing
 
 PARK, LAKE = feature("park", square(0, 0, 10)), feature("lake", square(20, 0, 10))
 WIDER = feature("park", square(0, 0, 15), name="Park", layer="green")
@@ -164,18 +162,6 @@ def test_an_end_during_the_first_load(number: int, zones: Path) -> None:
         os.close(writing)
 
 
-def opened_for_writing(pipe: Path) -> int:
-    """The end of a named pipe, once another process reads from it."""
-    until = time.monotonic() + LONGEST
-    while True:
-        try:
-            return os.open(pipe, os.O_WRONLY | os.O_NONBLOCK)
-        except OSError as error:
-            if error.errno != errno.ENXIO or time.monotonic() > until:
-                raise
-            time.sleep(0.01)
-
-
 @pytest.mark.parametrize("number", ENDS)
 def test_an_end_while_nobody_reads_events(number: int, start: Start) -> None:
     fence = start()
@@ -196,8 +182,21 @@ def test_a_reader_that_leaves(start: Start) -> None:
     fence.process.stdout = open(os.devnull, "rb")
 
 
-@pytest.mark.parametrize("closed", ["<&-", ">&-"])
-def test_a_closed_stream(closed: str, zones: Path) -> None:
-    words = ["sh", "-c", f'exec "$@" {closed}', "sh", *COMMAND, str(zones)]
-    done = subprocess.run(words, stderr=subprocess.PIPE, timeout=LONGEST, env=environment())
-    assert (done.returncode, done.stderr) == (1, b"rtfilter-fence: standard input or standard output is closed\n")
+CLOSED = "rtfilter-fence: standard input or standard output is closed\n"
+
+
+@pytest.mark.parametrize(
+    ("redirected", "status", "last", "output"),
+    [
+        ("<&-", 1, CLOSED, ""),
+        (">&-", 1, CLOSED, ""),
+        ("0> /dev/null", 1, "rtfilter-fence: standard input: Bad file descriptor\n", ""),
+        ("1< /dev/null", 1, "rtfilter-fence: standard output: Bad file descriptor\n", ""),
+        ("2>&-", 0, "", '{"line": 1, "event": "enter", "zone": "park", "device": "a", "longitude": 1, "latitude": 1, "time": 1}\n'),
+    ],
+)
+def test_a_stream_that_is_closed(redirected: str, status: int, last: str, output: str, zones: Path) -> None:
+    """Or opened for the other direction. Messages never stand among events."""
+    words = ["sh", "-c", f'exec "$@" {redirected}', "sh", *COMMAND, "--resume", "/dev/null", str(zones)]
+    done = subprocess.run(words, input="a,1,1,1\n", capture_output=True, text=True, timeout=LONGEST, env=environment())
+    assert (done.returncode, done.stdout, done.stderr.endswith(last)) == (status, output, True), done

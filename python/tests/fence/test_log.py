@@ -2,12 +2,16 @@
 
 import os
 import random
+import re
+import shutil
+import signal
+import socket
 import subprocess
 from pathlib import Path
 
 import pytest
 from fences import COMMAND, brief, feature, run, square, write_zones
-from support import LONGEST, environment
+from support import LONGEST, ROOT, environment, until
 
 from rtfilter.fence.devices import Devices
 from rtfilter.fence.events import Fence
@@ -192,6 +196,31 @@ def test_lines_that_are_no_events(zones: Path, log: Path) -> None:
     assert resume(str(log), Devices(1)).strays == len(strays)
     events = run(zones, b"a,1,1,5\na,50,1,6\n", "--resume", str(log))
     assert brief(events) == [("a", "leave", 12)]
+
+
+@pytest.mark.skipif(shutil.which("nc") is None, reason="nc: not installed")
+def test_a_stream_that_cannot_be_repeated(zones: Path, log: Path) -> None:
+    """The page's two commands, after both were killed within a line: it is refused, and each other line has its events once."""
+    commands = re.findall(r"`(\{ echo; nc [^`]+|tail -n [^`]+)`", (ROOT / "docs/fence.md").read_text())
+    folder, script = log.parent, log.with_name("rtfilter-fence")
+    positions, events, path = (folder / name for name in ("positions", "events", "positions.socket"))
+    script.write_text(f'#!/bin/sh\nexec {" ".join(COMMAND)} "$@"\n')
+    script.chmod(0o755)
+    positions.write_bytes(b"a,1,1,1\na,5")
+    events.write_bytes(whole_log(zones, b"a,1,1,1\n")[:-5])
+    typed = "".join(f"{command} &\n".replace("/run", str(folder)) for command in commands)
+    words = {**environment(), "PATH": f"{folder}:{os.environ['PATH']}"}
+    with subprocess.Popen(["bash", "-c", f"{typed} wait"], cwd=folder, env=words, stderr=subprocess.DEVNULL, process_group=0) as both:
+        try:
+            until(path.is_socket)
+            with socket.socket(socket.AF_UNIX) as sender:
+                sender.connect(str(path))
+                sender.sendall(b"a,50,1,2\nx\n")
+                until(lambda: b'"line": 4' in events.read_bytes())
+        finally:
+            os.killpg(both.pid, signal.SIGKILL)
+    assert positions.read_bytes() == b"a,1,1,1\na,5\na,50,1,2\nx\n"
+    assert events.read_bytes() == whole_log(zones, positions.read_bytes().removesuffix(b"\n"))
 
 
 @pytest.mark.parametrize("text", [b"a,1,1,1\nb,2,2", b"a,1,1,1\n", b"a,1", b'{"lines": 5', b"rtfilter-fence: zones: 4\nx\n"])

@@ -9,7 +9,8 @@ import tempfile
 import unittest
 from pathlib import Path
 
-from tiles_support import HOSTILE_LAYER, HOSTILE_NAME, Mapped, Server, ids_of, make_map, number_of, replies_of, wants
+from support import LONGEST, ROOT, wants
+from tiles_support import HOSTILE_LAYER, HOSTILE_NAME, Mapped, Server, ids_of, make_map, number_of, replies_of
 
 from rtfilter.tiles.mercator import DEEPEST, HALF, cells_of, cuts, window_of
 
@@ -154,6 +155,16 @@ class Tiles(Mapped):
             levels = [b"density" in plain.get("/%d/%d/%d.pbf" % (z, *tile_at(z, (0, 0))))[1][:40] for z in range(9, 14)]
         self.assertEqual(levels, [True, True, True, False, False])
 
+    def test_the_command_of_the_page(self) -> None:
+        """GDAL writes boxes of the map that make_map makes."""
+        wants("ogr2ogr")
+        (command,) = re.findall(r"^\$ (ogr2ogr .*)$", (ROOT / "docs/tiles.md").read_text(), re.MULTILINE)
+        folder = Path(self.folder, "page")
+        make_map(folder, 100_000)
+        with Server(folder / "boxes.csv", "--layers", str(folder / "layers.csv")) as server:
+            subprocess.run(command.replace("http://127.0.0.1:8080/", server.address), shell=True, cwd=folder, check=True, timeout=LONGEST)
+        self.assertGreater(len(json.loads((folder / "towns.geojson").read_text())["features"]), 5)
+
     def bounds(self) -> list[tuple[int, int]]:
         """The corners of all boxes."""
         x1, x2, y1, y2 = self.json("/about")["bounds"]
@@ -164,15 +175,9 @@ class Tiles(Mapped):
         _, tile = self.server.get(f"/{z}/{x}/{y}.pbf{on}")
         return b"density" in tile[:40] if tile else None
 
-    def test_a_name_and_an_empty_tile(self) -> None:
-        ((_, x1, _, y1, _, _),) = (row for row in rows_of(self.table) if row[0] == 1)
-        features = self.features(14, *tile_at(14, (x1, y1)))
-        self.assertIn(HOSTILE_NAME, [properties.get("name") for _, properties, _ in features])
-        self.assertEqual(self.features(9, 0, 0), [])
-
     def test_ids_and_names_of_every_size(self) -> None:
         """The own id of a feature is its box's; below 0 there is none, and the property `id` has it."""
-        names = {-(2**63): "", -1: "\u00e9\U0001f600", 0: "x" * 500, 1: "1", 127: "long" * 1000, 2**63 - 1: '"'}
+        names = {-(2**63): "", -1: "\u00e9\U0001f600", 0: HOSTILE_NAME, 1: "1", 127: "long" * 1000, 2**63 - 1: '"'}
         ids = sorted([*names, -2, 128, 16383, 16384, 2097151, 2097152, 2**53 + 1])
         table, listed = Path(self.folder, "ids.csv"), Path(self.folder, "names.csv")
         table.write_text("".join(f"{id},0,0,0,0\n" for id in ids))

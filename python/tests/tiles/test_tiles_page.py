@@ -5,7 +5,8 @@ import math
 from collections.abc import Sequence
 
 from chromium import Chromium
-from tiles_support import BOXES, HOSTILE_LAYER, HOSTILE_NAME, Mapped, ids_of, number_of, replies_of, wants
+from support import wants
+from tiles_support import BOXES, HOSTILE_LAYER, HOSTILE_NAME, Mapped, ids_of, number_of, replies_of
 
 
 class Page(Mapped):

@@ -49,6 +49,8 @@ class Refusals(Mapped):
         self.assert_refused(b"GET / HTTP/1.1\r\n" + host + b"X: y\r\n" + b"Y: " + b"y" * 20_000 + b"\r\n\r\n", 400)
         self.assert_refused(b"<script>alert(1)</script> a b\r\n\r\n", 400)
         self.assert_refused(bytes(range(1, 10)) * 9 + b"\r\n\r\n", 400)
+        for target in (b"/ask?q=\xff", b"/ask?q=\xed\xa0\x80", b"/about?\xff", b"/0/0/0.pbf?on=\xff"):
+            self.assert_refused(b"GET " + target + b" HTTP/1.1\r\n" + host + b"\r\n", 400)
         self.assertEqual(self.json("/about")["boxes"], BOXES)
 
     def test_addresses_that_are_none(self) -> None:

@@ -4,24 +4,29 @@ import contextlib
 import csv
 import gzip
 import json
+import os
 import re
+import select
 import signal
+import socket
 import subprocess
 import tempfile
 import threading
 import time
 import unittest
-from collections.abc import Callable
 from http.client import HTTPConnection, HTTPResponse
 from http.server import BaseHTTPRequestHandler, ThreadingHTTPServer
 from pathlib import Path
 from typing import Any
 
+from aiohttp.test_utils import TestClient, TestServer
 from chromium import Chromium
-from support import LONGEST, ROOT
-from tiles_support import BOXES, Mapped, Server, make_map, wants
+from support import LONGEST, ROOT, environment, opened_for_writing, until, wants
+from tiles_support import BOXES, COMMAND, Mapped, Server, make_map
 
+from rtfilter.tiles import server as serving
 from rtfilter.tiles.mercator import HALF, window_of
+from rtfilter.tiles.views import Views
 
 
 TILE = "/8/128/127.pbf"
@@ -60,11 +65,12 @@ class Descriptions(Serving):
         self.assertTrue(max(x2 - x1, y2 - y1) <= 2 * 2 * HALF / 2**z < 2 * max(x2 - x1, y2 - y1) + 2)
 
     def test_addresses_as_others_have_them(self) -> None:
-        with Server(self.table, "--host", "tiles.example.org", "--url", "https://example.org/t/") as server:
-            reply, body = self.response("/tiles.json", server, Host="tiles.example.org")
-            self.assertEqual(json.loads(body)["tiles"], ["https://example.org/t/{z}/{x}/{y}.pbf"])
-            _, body = self.response("/style.json", server)
-            self.assertEqual(json.loads(body)["sources"]["boxes"]["url"], "https://example.org/t/tiles.json")
+        for url in ("https://example.org/t/", "https://example.org/t"):
+            with Server(self.table, "--host", "tiles.example.org", "--url", url) as server:
+                reply, body = self.response("/tiles.json", server, Host="tiles.example.org")
+                self.assertEqual(json.loads(body)["tiles"], ["https://example.org/t/{z}/{x}/{y}.pbf"])
+                _, body = self.response("/style.json", server)
+                self.assertEqual(json.loads(body)["sources"]["boxes"]["url"], "https://example.org/t/tiles.json")
         reply, body = self.response("/tiles.json", Host=f"LOCALHOST:{self.server.port}")
         self.assertEqual(json.loads(body)["tiles"], [f"http://localhost:{self.server.port}/{{z}}/{{x}}/{{y}}.pbf"])
 
@@ -281,6 +287,25 @@ class Reloads(unittest.TestCase):
                 self.assertEqual(one.end(), (0, ""))
                 self.assertEqual(json.loads(other.get("/health")[1]), {"boxes": 5})
 
+    def test_an_end_during_a_load(self) -> None:
+        """Whatever that waits for: here for somebody who writes the table. While it is loaded again the status is 0."""
+        pipe = self.folder / "pipe"
+        os.mkfifo(pipe)
+        for number in (signal.SIGTERM, signal.SIGINT):
+            process = subprocess.Popen([*COMMAND, str(pipe)], env=environment())
+            writing = opened_for_writing(pipe)
+            process.send_signal(number)
+            self.assertEqual(process.wait(LONGEST), -number)
+            os.close(writing)
+            self.write(5)
+            with Server(self.table) as server:
+                os.link(pipe, self.folder / "linked")
+                (self.folder / "linked").replace(self.table)
+                server.process.send_signal(signal.SIGHUP)
+                writing = opened_for_writing(pipe)
+                self.assertEqual(server.end(number), (0, ""))
+                os.close(writing)
+
     def kept(self, connection: HTTPConnection) -> bytes:
         connection.request("GET", "/health")
         return connection.getresponse().read()
@@ -294,16 +319,65 @@ class Reloads(unittest.TestCase):
         with Server(self.table, "--log", str(log)) as server:
             server.get("/health")
             server.reply_to(b'GET /"x"\xff\x07 HTTP/1.1\r\nHost: localhost\r\n\r\n')
-            until(lambda: log.read_text().count("\n") == 2)
+            server.reply_to(b"GET /\xff HTTP/1.1\r\nHost: localhost\r\n\r\n")
+            until(lambda: log.read_text().count("\n") == 3)
             log.replace(self.folder / "older")
             server.get("/22/0/0.pbf")
             until(log.exists)
         older, newer = (it.read_text().splitlines() for it in (self.folder / "older", log))
         moment = r'\[\d\d/[A-Z][a-z]{2}/\d{4}:\d\d:\d\d:\d\d \+0000\]'
-        self.assertEqual((len(older), len(newer)), (2, 1))
+        self.assertEqual((len(older), len(newer)), (3, 1))
         self.assertRegex(older[0], rf'^127\.0\.0\.1 - - {moment} "GET /health HTTP/1\.1" 200 \d+$')
-        self.assertRegex(older[1], rf'^127\.0\.0\.1 - - {moment} ".*" 40\d \d+$')
+        for line in older[1:]:
+            self.assertRegex(line, rf'^127\.0\.0\.1 - - {moment} ".*" 40\d \d+$')
         self.assertIn('"GET /22/0/0.pbf HTTP/1.1" 204 ', newer[0])
+
+    def test_a_log_that_cannot_be_written(self) -> None:
+        """Requests are answered, and that is said once in a while: the disk is full, or the folder is gone for some time."""
+        with Server(self.table, "--log", "/dev/full") as server:
+            self.assertEqual([server.get("/health")[0].status for _ in range(5)], [200] * 5)
+            self.assertEqual(server.end(), (0, "rtfilter-tiles: --log /dev/full: lines are lost: No space left on device\n"))
+        folder, other = self.folder / "logs", self.folder / "moved"
+        folder.mkdir()
+        with Server(self.table, "--log", str(folder / "log")) as server:
+            folder.replace(other)
+            self.assertEqual([server.get("/health")[0].status for _ in range(5)], [200] * 5)
+            other.replace(folder)
+            server.get("/nowhere")
+            until(lambda: '"GET /nowhere HTTP/1.1" 404 ' in (folder / "log").read_text())
+            self.assertEqual(server.end(), (0, f"rtfilter-tiles: --log {folder}/log: lines are lost: No such file or directory\n"))
+
+    def test_messages(self) -> None:
+        """What isn't HTTP is a line each, without a traceback, and connections for which there is no descriptor one in a while."""
+        with Server(self.table, before=["prlimit", "--nofile=24"]) as server:
+            for request in (b"<x> y z", b"GET /\x1b[31m HTTP/1.1", b"\0\0\0\0", b"GET / HTTP/1.1\r\nHost: x\r\nContent-Length: -1"):
+                self.assertEqual(server.reply_to(request + b"\r\n\r\n")[0].status, 400)
+            connections = [socket.create_connection(("127.0.0.1", server.port)) for _ in range(40)]
+            self.assertTrue(select.select([server.process.stderr], [], [], LONGEST)[0])
+            time.sleep(1.5)  # in which it tries again
+            for connection in connections:
+                connection.close()
+            self.assertEqual(server.get("/health")[0].status, 200)
+            status, said = server.end()
+        *refused, last = said.splitlines()
+        self.assertEqual((status, len(refused)), (0, 4), said)
+        for line in refused:
+            self.assertRegex(line, "^rtfilter-tiles: a request that isn't HTTP: 400, message=")
+        self.assertEqual(last, "rtfilter-tiles: socket.accept() out of system resource: [Errno 24] Too many open files")
+
+    def test_an_address_of_ipv6(self) -> None:
+        """Its browser names it in brackets."""
+        try:
+            socket.create_server(("::1", 0), family=socket.AF_INET6).close()
+        except OSError as error:
+            self.skipTest(f"IPv6: {error}")
+        with Server(self.table, "--listen", "::1") as server:
+            self.assertEqual(server.address, f"http://[::1]:{server.port}/")
+            connection = HTTPConnection("::1", server.port, timeout=LONGEST)
+            self.addCleanup(connection.close)
+            for headers in ({}, {"Host": "[::1]"}):
+                connection.request("GET", "/health", headers=headers)
+                self.assertEqual(connection.getresponse().read(), b'{"boxes": 5}')
 
     def test_metrics(self) -> None:
         with Server(self.table) as server:
@@ -318,19 +392,31 @@ class Reloads(unittest.TestCase):
             self.assertEqual(counts[200], 6)
 
 
+class OwnFaults(unittest.IsolatedAsyncioTestCase):
+    async def test_they_are_counted(self) -> None:
+        """A request on which the server fails has status 500, and so has the metric."""
+        class Faulty(Views):
+            def __init__(self) -> None:
+                pass
+
+            def __len__(self) -> int:
+                return 5
+
+            def size(self) -> int:
+                raise RuntimeError("a fault of a test")
+
+        app = serving.Server(serving.Served(Faulty(), "tag"), {"localhost"}, set(), None, 0).app()
+        async with TestClient(TestServer(app)) as client:
+            for target, status in ("/health", 500), ("/nowhere", 404), ("/metrics", 200):
+                reply = await client.get(target, headers={"Host": "localhost"})
+                self.assertEqual(reply.status, status)
+            self.assertIn('rtfilter_replies_total{status="500"} 1\n', await reply.text())
+
+
 def metric(server: Server, name: str) -> float:
     text = server.get("/metrics")[1].decode()
     (found,) = re.findall(rf"^{re.escape(name)} (\S+)$", text, re.MULTILINE)
     return float(found)
-
-
-def until(is_so: Callable[[], bool]) -> None:
-    """Waits until something is so."""
-    end = time.monotonic() + LONGEST
-    while not is_so():
-        if time.monotonic() > end:
-            raise TimeoutError
-        time.sleep(0.02)
 
 
 class Many(Serving):

@@ -1,8 +1,6 @@
 """What the tests of the map share: the program, a map, a server, and what a process has cost."""
 
 import json
-import os
-import shutil
 import signal
 import socket
 import subprocess
@@ -14,7 +12,7 @@ from http.client import HTTPConnection, HTTPResponse
 from pathlib import Path
 from typing import Any
 
-from support import LONGEST, PROGRAM, environment
+from support import LONGEST, PROGRAM, environment, seconds_of
 
 BOXES = 30_000
 COMMAND = [sys.executable, "-B", "-m", "rtfilter.tiles"]
@@ -50,8 +48,9 @@ def ids_of(table: Path, line: str) -> list[int]:
 class Server:
     """A server of a table, as a process."""
 
-    def __init__(self, table: Path, *options: str) -> None:
-        words = [*COMMAND, "--port", "0", *options, table]
+    def __init__(self, table: Path, *options: str, before: Iterable[str] = ()) -> None:
+        """`before` are words of a command that runs it."""
+        words = [*before, *COMMAND, "--port", "0", *options, table]
         pipe = subprocess.PIPE
         self.process = subprocess.Popen([*map(str, words)], stdout=pipe, stderr=pipe, text=True, env=environment())
         assert self.process.stdout is not None
@@ -100,17 +99,6 @@ class Server:
     def __exit__(self, *_: Any) -> None:
         if self.process.returncode is None:
             self.end()
-
-
-def seconds_of(process: int) -> float:
-    # Behind the name, which is in brackets and may hold anything: from the third field of proc(5)'s stat on.
-    fields = Path(f"/proc/{process}/stat").read_text().rpartition(")")[2].split()
-    return (int(fields[11]) + int(fields[12])) / os.sysconf("SC_CLK_TCK")
-
-
-def wants(tool: str) -> None:
-    if shutil.which(tool) is None:
-        raise unittest.SkipTest(f"{tool}: not installed")
 
 
 def hostile_map(folder: Path) -> list[str]:
