@@ -195,7 +195,7 @@ static PyObject *opened(Table *self, int code, const rtfilter_fault *fault)
     return NULL;
 }
 
-/* Reads a setting, for PyArg_ParseTuple. One beyond 64 bits becomes 0, which the library refuses. */
+/* Reads a setting, for PyArg_ParseTuple. A number that doesn't fit becomes 0, which the library refuses. */
 static int read_setting(PyObject *number, void *setting)
 {
     int overflow;
@@ -203,27 +203,23 @@ static int read_setting(PyObject *number, void *setting)
     if (!found)
         return 0;
     const long long value = PyLong_AsLongLongAndOverflow(found, &overflow);
-    *(long long *)setting = overflow ? 0 : value;
+    *(uint32_t *)setting = overflow || value < 0 || value > UINT32_MAX ? 0 : (uint32_t)value;
     Py_DECREF(found);
     return 1;
 }
 
-/* A setting that is out of the range of its member becomes 0, which the library refuses. */
-static rtfilter_settings settings_of(int header, long long fanout, long long most)
+static rtfilter_settings settings_of(int header, uint32_t fanout, uint32_t most)
 {
-    rtfilter_settings settings = RTFILTER_DEFAULTS;
-    settings.header = header;
-    settings.fanout = fanout < 0 || fanout > UINT8_MAX ? 0 : (uint8_t)fanout;
-    settings.max_entries = most < 0 || most > UINT32_MAX ? 0 : (uint32_t)most;
-    return settings;
+    return (rtfilter_settings){header, fanout > UINT8_MAX ? 0 : (uint8_t)fanout, most, {0}};
 }
 
 static PyObject *open_file(PyTypeObject *type, PyObject *args)
 {
     PyObject *name, *path, *table = NULL;
     int header;
-    long long fanout, most;
-    if (!PyArg_ParseTuple(args, "OpO&O&", &name, &header, read_setting, &fanout, read_setting, &most) || !PyUnicode_FSConverter(name, &path))
+    uint32_t fanout, most;
+    if (!PyArg_ParseTuple(args, "OpO&O&", &name, &header, read_setting, &fanout, read_setting, &most) ||
+        !PyUnicode_FSConverter(name, &path))
         return NULL;
     const rtfilter_settings settings = settings_of(header, fanout, most);
     Table *self = (Table *)PyType_GenericAlloc(type, 0);
@@ -251,7 +247,7 @@ static PyObject *open_arrays(PyTypeObject *type, PyObject *args)
     enum { COLUMNS = 6, LAYERS = 5 };
     static const Py_ssize_t sizes[COLUMNS] = {8, 4, 4, 4, 4, 1};
     PyObject *from[COLUMNS], *table = NULL;
-    long long fanout, most;
+    uint32_t fanout, most;
     if (!PyArg_ParseTuple(args, "(OOOOOO)O&O&", from, from + 1, from + 2, from + 3, from + 4, from + LAYERS, read_setting,
                           &fanout, read_setting, &most))
         return NULL;

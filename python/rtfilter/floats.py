@@ -39,27 +39,35 @@ def rows_of(bounds: Any, what: str) -> Floats:
     return rows
 
 
+def rounding() -> Any:
+    """A block in which numbers may become infinite or 0, whatever their user had numpy raise."""
+    return numpy.errstate(over="ignore", under="ignore")
+
+
 class Grid:
     """How floats become whole numbers of 32 bits."""
 
     def __init__(self, bounds: Floats) -> None:
         low, high = (bounds[:, :2].min(0), bounds[:, 2:].max(0)) if len(bounds) else (numpy.zeros(2), numpy.zeros(2))
         is_whole = low.min() >= LEAST and high.max() <= GREATEST and numpy.array_equal(bounds, numpy.rint(bounds))
-        extent = max(float((high / 2 - low / 2).max()), SMALLEST_EXTENT)
-        self._shift = numpy.zeros(4) if is_whole else numpy.tile(low / 2 + high / 2, 2)
+        with rounding():
+            extent = max(float((high / 2 - low / 2).max()), SMALLEST_EXTENT)
+            self._shift = numpy.zeros(4) if is_whole else numpy.tile(low / 2 + high / 2, 2)
         self._scale = 1.0 if is_whole else 2.0 ** (29 - math.frexp(extent)[1])
         self.is_whole = bool(is_whole)
 
     def widened(self, bounds: Floats) -> tuple[NDArray[Any], bool]:
         """Bounds in whole numbers, and whether none of them was rounded."""
-        with numpy.errstate(over="ignore"):
+        with rounding():
             moved = numpy.clip((bounds - self._shift) * self._scale, LEAST, GREATEST)
         whole = numpy.hstack([numpy.floor(moved[:, :2]), numpy.ceil(moved[:, 2:])])
         return whole.astype("i4"), self.is_whole and bool((whole == bounds).all())
 
     def points(self, bounds: Floats) -> NDArray[Any]:
         """The centres of bounds, or points near them, in whole numbers."""
-        return (self.widened(numpy.tile(bounds[:, :2] / 2 + bounds[:, 2:] / 2, 2))[0])[:, :2]
+        with rounding():
+            centres = bounds[:, :2] / 2 + bounds[:, 2:] / 2
+        return self.widened(numpy.tile(centres, 2))[0][:, :2]
 
 
 class FloatBoxes:
@@ -107,17 +115,18 @@ class FloatBoxes:
 
 def widened(bounds: Floats, by: Floats) -> Floats:
     """Bounds with all that is not farther from them than so far, and perhaps more."""
-    with numpy.errstate(over="ignore"):
+    with rounding():
         far = (by * SLACK + UNDERFLOW)[:, None]
         low, high = bounds[:, :2] - far, bounds[:, 2:] + far
-    return numpy.hstack([numpy.nextafter(low, -numpy.inf), numpy.nextafter(high, numpy.inf)])
+        return numpy.hstack([numpy.nextafter(low, -numpy.inf), numpy.nextafter(high, numpy.inf)])
 
 
 def gaps(some: Floats, others: Floats) -> Floats:
     """The distances between boxes, rounded."""
-    between = numpy.maximum(some[:, :2] - others[:, 2:], others[:, :2] - some[:, 2:])
-    x, y = numpy.maximum(between, 0).T
-    return numpy.asarray(numpy.hypot(x, y), "f8")
+    with rounding():
+        between = numpy.maximum(some[:, :2] - others[:, 2:], others[:, :2] - some[:, 2:])
+        x, y = numpy.maximum(between, 0).T
+        return numpy.asarray(numpy.hypot(x, y), "f8")
 
 
 def square(one: Floats, other: Floats) -> Fraction:

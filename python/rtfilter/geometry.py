@@ -42,7 +42,8 @@ class STRtree:
 
     @classmethod
     def from_bounds(cls, bounds: Any) -> Self:
-        """A tree of rows (min_x, min_y, max_x, max_y) alone, for `query_bounds` and `query` without a predicate."""
+        """A tree of rows (min_x, min_y, max_x, max_y) alone, or of a frame with these columns, for `query_bounds` and `query` without a
+        predicate."""
         tree = cls.__new__(cls)
         tree.geometries = None
         tree._boxes = FloatBoxes(rows_of(bounds, "bounds").copy())  # (which no caller changes)

@@ -4,7 +4,7 @@ Numbers are whole, in the unit of the table; they are checked when a query is ma
 `str` of a region or an order is its words in the query language.
 """
 
-from collections.abc import Iterable
+from collections.abc import Iterable, Iterator
 from operator import index
 from typing import Any, NamedTuple, Self, Union
 
@@ -149,9 +149,10 @@ def layer_bits(on: Layers) -> int:
     """Layers as bits of a number."""
     if isinstance(on, (str, bytes)):
         raise TypeError(f"layers are whole numbers, and not {on!r:.200}")
-    layers: Any = on
-    if not isinstance(on, Iterable) or getattr(on, "ndim", None) == 0:  # (an array may be a number)
-        layers = [on]
+    try:
+        layers: Iterator[Any] = iter(on)  # type: ignore[arg-type]  # (an array may be a number)
+    except TypeError:
+        layers = iter([on])
     bits = 0
     for layer in layers:
         if type(layer).__name__ in ("bool", "bool_"):  # (numpy's own is no bool)

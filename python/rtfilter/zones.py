@@ -66,7 +66,8 @@ class Zones:
         return [*dict.fromkeys(found)]
 
     def holding_each(self, points: Any) -> tuple[NDArray[Any], NDArray[Any]]:
-        """Return two arrays with a pair for each answer: the position of the point, a row of x and y, and that of the polygon."""
+        """Return two arrays with a pair for each answer: the position of the point, and that of the polygon. `points` are rows of x
+        and y, or a frame with these columns."""
         array = arrays.floats_of(points, "points", arrays.POINT)
         if array.shape != (0,) and (array.ndim != 2 or array.shape[1] != 2):
             raise TypeError(f"points: the shape is {array.shape}, and not (n, 2)")

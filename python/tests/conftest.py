@@ -15,12 +15,67 @@ import reading
 from served import Served
 from support import PROGRAM as PROGRAM, ROOT
 
-from rtfilter import Client, Rtfilter, aio
+from rtfilter import All, Circle, Client, Covers, Inside, Near, Polygon, QueryError, Rtfilter, Smallest, Window, aio
+from rtfilter.regions import count_line, find_line, nearest_line
 
 Run = Callable[[Path, bytes], bytes]
 Serve = Callable[..., Served]
 Random = Callable[[random.Random], bytes]
 Connect = Callable[..., Any]
+
+
+class Calls:
+    """Random queries, of which this share of the numbers is faulty, and calls of them."""
+
+    def __init__(self, chance: random.Random, span: int, faulty: float = 0.05) -> None:
+        self.chance, self.span, self.faulty = chance, span, faulty
+
+    def one_of(self, sound: Any, faulty: Any) -> Any:
+        return self.chance.choice(faulty if self.chance.random() < self.faulty else sound)
+
+    def number(self) -> int:
+        return int(self.one_of([self.chance.randint(-self.span, self.span)] * 9 + [2**31 - 1, -(2**31)], [2**31]))
+
+    def region(self) -> Any:
+        x, y, kind = self.number(), self.number(), self.chance.choice([All, Window, Window, Inside, Covers, Circle, Circle, Polygon])
+        if kind is All:
+            return All()
+        if kind is Circle:
+            return Circle(x, y, self.one_of([0, 1, 5, 9, 20, 40, 2**32 - 1], [2**32, -1]))
+        if kind is Polygon:  # any corners may be valid, and too few or too many
+            some = [(self.number(), self.number()) for _ in range(self.chance.choice([2, 3, 4, 17]))]
+            return Polygon(self.one_of([[(x // 2, y // 2), (x // 2 + 9, y // 2 + 2), (x // 2 - 3, y // 2 + 12)]], [some]))
+        sides = [*sorted([x, self.number()]), *sorted([y, self.number()])]
+        return kind(*self.one_of([sides], [sides[::-1]]))
+
+    def options(self) -> dict[str, Any]:
+        """What a find may have besides its region."""
+        order = self.chance.choice([None, None, Near(self.number(), self.number()), Smallest()])
+        first = self.chance.choice([None, self.one_of([0, 1, 2, 3, 5, 100, 2**64 - 1], [2**64, -1])])
+        return {"order": order, "first": first, "on": self.chance.choice([None, None, 0, 3, [0, 5], [1, 63], range(64)])}
+
+    def some(self) -> tuple[str, Callable[[Any], Any]]:
+        """A query line, and the call that asks the same."""
+        region, options = self.region(), self.options()
+        k, x, y, on = self.one_of([0, 1, 4, 30, 2**64 - 1], [-1]), self.number(), self.number(), options["on"]
+        find, count = find_line(region, options["order"], options["first"], on), count_line(region, on)
+        calls: list[tuple[str, Callable[[Any], Any]]] = [
+            (find, lambda it: it.find(region, **options, scores=True)),
+            (find, lambda it: [(id, score) for id, (_, score) in zip(it.find(region, **options), it.find(region, **options, scores=True), strict=True)]),
+            (count, lambda it: it.count(region, on=on)),
+            (nearest_line(k, x, y), lambda it: it.nearest(k, x, y)),
+            (f"cost {find}", lambda it: it.cost_of_find(region, **options)),
+            (f"cost {count}", lambda it: it.cost_of_count(region, on=on)),
+        ]
+        return self.chance.choice(calls)
+
+
+def given_by(boxes: Any, call: Callable[[Any], Any]) -> Any:
+    """What a call gives, or the code and the text of a fault."""
+    try:
+        return call(boxes)
+    except QueryError as error:
+        return error.code, error.text
 
 
 @pytest.fixture

@@ -59,7 +59,8 @@ def test_decimals_are_compared_exactly(pool: int) -> None:
         windows = some_bounds(chance, drawn, int(chance.integers(1, 40)))
         if trial % 3 == 0 and pool != 10:
             windows = numpy.sort(windows.reshape(-1, 2, 2) * chance.choice([1, 2, 1e5]), axis=1).reshape(-1, 4)
-        found = STRtree.from_bounds(boxes).query_bounds(windows)
+        with numpy.errstate(all="raise"):
+            found = STRtree.from_bounds(boxes).query_bounds(windows)
         assert numpy.array_equal(found, meeting(boxes, windows).reshape(2, -1))
         pairs += found.shape[1]
     assert pairs > 1000
@@ -171,10 +172,11 @@ def test_distances_are_those_of_shapely() -> None:
 
 def test_nearest_of_far_and_near_floats() -> None:
     chance = numpy.random.default_rng(4)
-    for scale in (1e-200, 1e-9, 1.0, 1e9, 1e150):
+    for scale in (1e-320, 1e-200, 1e-9, 1.0, 1e9, 1e150):
         points = [Point(*it) for it in (chance.random((300, 2)) - 0.5) * scale]
         inputs = [Point(*it) for it in (chance.random((40, 2)) - 0.5) * scale * 1.5]
-        found = STRtree(points).query_nearest(inputs)
+        with numpy.errstate(all="raise"):
+            found = STRtree(points).query_nearest(inputs)
         for at, one in enumerate(inputs):
             known = [one.distance(it) for it in points]
             assert found[1][found[0] == at].tolist() == [place for place, far in enumerate(known) if far == min(known)]

@@ -5,6 +5,7 @@ import random
 from fractions import Fraction
 from typing import Any
 
+import numpy
 import pytest
 
 from rtfilter.index import Index
@@ -41,7 +42,7 @@ def nearest(boxes: dict[int, Box], window: Box, count: int) -> list[int]:
 
 
 @pytest.mark.parametrize("is_interleaved", [True, False])
-@pytest.mark.parametrize("unit", [1.0, 0.1, 1e-9, 3e200])
+@pytest.mark.parametrize("unit", [1.0, 0.1, 1e-9, 3e200, 5e-324])
 def test_as_plain_numbers(unit: float, is_interleaved: bool) -> None:
     chance = random.Random(str(unit))
     for count in (0, 1, 3, 50, 400):
@@ -59,7 +60,8 @@ def test_as_plain_numbers(unit: float, is_interleaved: bool) -> None:
             assert [*index.contains(given(window))] == inside
             if boxes:
                 k = chance.choice([1, 2, 10, 1000])
-                assert [*index.nearest(given(window), k)] == nearest(boxes, window, k)
+                with numpy.errstate(all="raise"):
+                    assert [*index.nearest(given(window), k)] == nearest(boxes, window, k)
                 assert [*index.nearest(window[:2])] == nearest(boxes, (*window[:2], *window[:2]), 1)
         assert len(index) == count
         low = [min((it[at] for it in boxes.values()), default=math.inf) for at in (0, 1)]

@@ -8,9 +8,9 @@ from typing import Any
 
 import numpy
 import pytest
-from conftest import Serve
+from conftest import Calls, Serve, given_by
 
-from rtfilter import All, Circle, Client, Covers, Inside, Near, Polygon, QueryError, Rtfilter, Smallest, Tables, Window, tables
+from rtfilter import All, Circle, Client, Covers, Inside, Near, Polygon, QueryError, Rtfilter, Tables, Window, tables
 
 SEEDS = 40
 QUERIES = 120
@@ -37,29 +37,6 @@ def cut(chance: random.Random, rows: list[Row]) -> list[list[Row]]:
     return parts
 
 
-def number(chance: random.Random) -> int:
-    return chance.choice([chance.randint(-25, 25)] * 20 + [FAR, -FAR - 1])
-
-
-def region_of(chance: random.Random) -> Any:
-    kind = chance.choice([All, Window, Window, Inside, Covers, Circle, Circle, Polygon])
-    if kind is All:
-        return All()
-    if kind is Circle:
-        return Circle(number(chance), number(chance), chance.choice([0, 3, 9, 40, 2**32 - 1]))
-    if kind is Polygon:
-        x, y, a, b = number(chance) // 2, number(chance) // 2, chance.randint(1, 30), chance.randint(1, 30)
-        return Polygon([(x, y), (x + a, y), (x, y + b)])
-    across, along = sorted([number(chance), number(chance)]), sorted([number(chance), number(chance)])
-    return kind(*across, *along)
-
-
-def options_of(chance: random.Random) -> dict[str, Any]:
-    order = chance.choice([None, None, Near(number(chance), number(chance)), Smallest()])
-    first = chance.choice([None, 0, 1, 2, 5, 1000, 2**64 - 1])
-    return {"order": order, "first": first, "on": chance.choice([None, None, 0, [1, 63]])}
-
-
 @pytest.fixture(params=[(10**6, 65_536), (0, 50)], ids=["in a loop", "in threads, by parts"])
 def ways(request: Any, monkeypatch: pytest.MonkeyPatch) -> None:
     """Both ways of many queries: without threads, and with them for any number of queries, in small parts."""
@@ -70,39 +47,44 @@ def ways(request: Any, monkeypatch: pytest.MonkeyPatch) -> None:
 @pytest.mark.parametrize("seed", range(SEEDS))
 def test_single_calls(seed: int) -> None:
     chance = random.Random(seed)
-    rows = rows_of(chance, chance.choice([5, 20]))
+    rows, calls = rows_of(chance, chance.choice([5, 20])), Calls(chance, 25)
     with Rtfilter(rows) as one, Tables(map(Rtfilter, cut(chance, rows))) as many:
         assert len(many) == len(one) and many.bounds == one.bounds
-        for _ in range(QUERIES):
-            region, options = region_of(chance), options_of(chance)
-            assert many.find(region, **options) == one.find(region, **options), (region, options)
-            assert many.find(region, **options, scores=True) == one.find(region, **options, scores=True), (region, options)
-            assert many.count(region, on=options["on"]) == one.count(region, on=options["on"])
-            k, x, y = chance.choice([0, 1, 3, 30, 2**64 - 1]), number(chance), number(chance)
-            assert many.nearest(k, x, y) == one.nearest(k, x, y)
+        for line, call in [calls.some() for _ in range(4 * QUERIES)]:
+            if not line.startswith("cost"):
+                assert outcome(lambda: call(many)) == outcome(lambda: call(one)), line
 
 
 @pytest.mark.usefixtures("ways")
 @pytest.mark.parametrize("seed", range(SEEDS // 2))
 def test_many_queries(seed: int) -> None:
     chance = random.Random(seed)
-    rows = rows_of(chance, chance.choice([5, 20]))
+    rows, calls = rows_of(chance, chance.choice([5, 20])), Calls(chance, 25, faulty=0.0003)
     with Rtfilter(rows) as one, Tables(map(Rtfilter, cut(chance, rows))) as many:
         for kind in (Window, Inside, Covers, Circle):
-            some = [[*it] for it in (region_of(chance) for _ in range(6 * QUERIES)) if type(it) is kind]
-            options = options_of(chance)
-            same(many.find_each(some, region=kind, **options), one.find_each(some, region=kind, **options))
-            same([many.count_each(some, region=kind, on=options["on"])], [one.count_each(some, region=kind, on=options["on"])])
-        points = [(number(chance), number(chance)) for _ in range(QUERIES)]
+            some = [[*it] for it in (calls.region() for _ in range(6 * QUERIES)) if type(it) is kind]
+            options = calls.options()
+            same(lambda it: it.find_each(some, region=kind, **options), many, one)
+            same(lambda it: [it.count_each(some, region=kind, on=options["on"])], many, one)
+        points = [(calls.number(), calls.number()) for _ in range(QUERIES)]
         for k in (0, 1, 3, 2**64 - 1):
-            same(many.nearest_each(points, k), one.nearest_each(points, k))
+            same(lambda it: it.nearest_each(points, k), many, one)
         bounds = numpy.array([(x, y, x + 4, y + 4) for x, y in points if max(x, y) < FAR])
-        same(many.find_each(bounds=bounds), one.find_each(bounds=bounds))
+        same(lambda it: it.find_each(bounds=bounds), many, one)
 
 
-def same(some: Any, others: Any) -> None:
-    for one, other in zip(some, others, strict=True):
-        assert one.tolist() == other.tolist() and one.dtype == other.dtype
+def outcome(call: Callable[[], Any]) -> Any:
+    """What a call gives, or the fault that it raises."""
+    try:
+        return call()
+    except QueryError as error:
+        return error.args
+
+
+def same(call: Callable[[Any], Any], *tables: Any) -> None:
+    """A call for many queries gives the same of two tables."""
+    one, other = (outcome(lambda: [(it.tolist(), it.dtype) for it in call(table)]) for table in tables)
+    assert one == other
 
 
 def test_ties_whose_floats_differ() -> None:
@@ -145,8 +127,8 @@ def test_what_stands_for_a_number(three: "Tables") -> None:
     assert three.find(Circle(two, two, two), first=two) == three.find(Circle(2, 2, 2), first=2) == [0]
     for kind in (Window, Circle):
         some = [(0, 30, 0, 9), (0, 9, 0, 9)] if kind is Window else [(0, 0, 9)]
-        same(three.find_each(some, region=kind, order=Near(two, 9), first=two), three.find_each(some, region=kind, order=Near(2, 9), first=2))
-    same(three.nearest_each([(0, 0), (9, 9)], two), three.nearest_each([(0, 0), (9, 9)], 2))
+        same(lambda it: three.find_each(some, region=kind, order=Near(it, 9), first=it), two, 2)
+    same(lambda it: three.nearest_each([(0, 0), (9, 9)], it), two, 2)
 
 
 @pytest.fixture
@@ -209,11 +191,9 @@ def test_tables_of_services(serve: Serve, tmp_path: Path) -> None:
     clients = [Client(serve(it).path, timeout=20) for it in files]
     with Rtfilter(rows) as one, Tables([*clients, Rtfilter(rows[2::3])]) as many:
         assert len(many) == len(one)
-        for _ in range(3 * QUERIES):
-            region, options = region_of(chance), options_of(chance)
-            assert many.find(region, **options, scores=True) == one.find(region, **options, scores=True), (region, options)
-            assert many.count(region, on=options["on"]) == one.count(region, on=options["on"])
-            assert many.nearest(3, 1, 2) == one.nearest(3, 1, 2)
+        for line, call in [Calls(chance, 25).some() for _ in range(8 * QUERIES)]:
+            if not line.startswith("cost"):
+                assert given_by(many, call) == given_by(one, call), line
         with pytest.raises(TypeError, match="client"):
             many.find_each([(0, 1, 0, 1)])
         with pytest.raises(TypeError, match="client"):

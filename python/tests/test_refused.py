@@ -32,6 +32,7 @@ def find_each():
 
 calls = {
     "find": lambda: table.find(All(), Near(3, 3), scores=True),
+    "layers": lambda: table.find(All(), on=[0, 63]),
     "count": lambda: table.count(Window(0, 9, 0, 9)),
     "find_each": find_each,
     "count_each": lambda: bytes(table._count_each(queries, 0)),
@@ -83,5 +84,5 @@ def test_each_allocation_in_turn(refusing: Path, allocator: str, tmp_path: Path)
     assert done.returncode == 0, done.stderr[-2000:] + done.stdout
     for line in done.stdout.splitlines():
         name, _, refused = line.rsplit(" ", 2)
-        assert int(refused) > 0 or name in ("find", "count", "levels"), done.stdout
-    assert len(done.stdout.splitlines()) == 11
+        assert int(refused) > 0 or name in ("find", "layers", "count", "levels"), done.stdout
+    assert len(done.stdout.splitlines()) == 12

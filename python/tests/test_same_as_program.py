@@ -11,10 +11,9 @@ from typing import Any
 import numpy
 import pandas
 import pytest
-from conftest import Connect, Random, Run, Serve
+from conftest import Calls, Connect, Random, Run, Serve, given_by
 
-from rtfilter import All, Answers, Circle, Covers, Inside, Near, Polygon, QueryError, Rtfilter, Smallest, Window
-from rtfilter.regions import count_line, find_line, nearest_line
+from rtfilter import Answers, Circle, Covers, Inside, Near, QueryError, Rtfilter, Smallest, Window
 
 TABLES, LINES = 20, 10_000  # random lines over each table
 CALLS = 1500
@@ -44,52 +43,6 @@ def written(at: int, reply: Any) -> bytes:
     return answers + b"ok %d %d\n" % (at, reply.total)
 
 
-Made = tuple[str, Callable[[Any], Any]]
-
-
-class Calls:
-    """Random calls, some of them faulty, and their lines."""
-
-    def __init__(self, chance: random.Random) -> None:
-        self.chance = chance
-
-    def number(self) -> int:
-        return self.chance.choice([self.chance.randint(-12, 12)] * 9 + [2**31 - 1, -(2**31), 2**31])
-
-    def sides(self) -> list[int]:
-        low, high = sorted(self.number() for _ in range(2))
-        pairs = [low, high, *sorted(self.number() for _ in range(2))]
-        return pairs if self.chance.random() < 0.9 else pairs[::-1]
-
-    def polygon(self) -> Polygon:
-        """One that may be valid, or has any corners, or not as many as it needs."""
-        x, y = self.number(), self.number()
-        some = [(self.number(), self.number()) for _ in range(self.chance.choice([2, 3, 4, 17]))]
-        return Polygon(self.chance.choice([[(x, y), (x + 9, y + 2), (x - 3, y + 12)]] * 3 + [some]))
-
-    def region(self) -> Any:
-        x, y, radius = self.number(), self.number(), self.chance.choice([0, 1, 5, 20, 2**32 - 1, 2**32])
-        return self.chance.choice(
-            [All(), Window(*self.sides()), Inside(*self.sides()), Covers(*self.sides()), Circle(x, y, radius), self.polygon()]
-        )
-
-    def some(self) -> Made:
-        region, on = self.region(), self.chance.choice([None, None, 0, 3, [0, 5], range(64)])
-        order = self.chance.choice([None, Near(self.number(), self.number()), Smallest()])
-        first = self.chance.choice([None, None, None, 0, 1, 3, 100, 2**64 - 1, 2**64, -1])
-        kind = self.chance.choice(["find", "find", "count", "nearest", "cost find", "cost count"])
-        if kind == "nearest":
-            k, x, y = self.chance.choice([0, 1, 4, 2**64 - 1, -1]), self.number(), self.number()
-            return nearest_line(k, x, y), lambda it: it.nearest(k, x, y)
-        if kind == "find":
-            return find_line(region, order, first, on), lambda it: it.find(region, order, first, on=on, scores=True)
-        if kind == "cost find":
-            return f"cost {find_line(region, order, first, on)}", lambda it: it.cost_of_find(region, order, first, on=on)
-        if kind == "cost count":
-            return f"cost {count_line(region, on)}", lambda it: it.cost_of_count(region, on=on)
-        return count_line(region, on), lambda it: it.count(region, on=on)
-
-
 def expected_of(lines: list[str], text: bytes) -> list[Any]:
     """What calls give for these lines: a list of pairs, a number, or the code and the text of a fault."""
     found: list[Any] = []
@@ -106,13 +59,6 @@ def expected_of(lines: list[str], text: bytes) -> list[Any]:
     return found
 
 
-def given_by(boxes: Any, call: Callable[[Any], Any]) -> Any:
-    try:
-        return call(boxes)
-    except QueryError as error:
-        return error.code, error.text
-
-
 Case = tuple[Path, list[Callable[[Any], Any]], list[Any]]
 
 
@@ -125,7 +71,7 @@ def case(tmp_path: Path, run: Run, sound_table: Random, request: pytest.FixtureR
     while text.count(b"\n") < 8:
         text = sound_table(chance)
     table.write_bytes(text)
-    lines, calls = zip(*(Calls(chance).some() for _ in range(CALLS)))
+    lines, calls = zip(*(Calls(chance, 12).some() for _ in range(CALLS)))
     expected = expected_of(list(lines), run(table, "".join(f"{it}\n" for it in lines).encode()))
     assert len(expected) == CALLS and {type(it) for it in expected} == {list, int, tuple}
     return table, list(calls), expected
