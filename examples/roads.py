@@ -16,6 +16,7 @@ from typing import Any
 
 import numpy
 from pyproj import Geod, Transformer
+from pyproj.exceptions import CRSError
 from shapely.geometry import Point, shape
 from shapely.ops import nearest_points, transform
 
@@ -104,7 +105,7 @@ def main() -> None:
         parser.error("argument --nearest: 1 or more")
     try:
         write(args)
-    except (OSError, ValueError, csv.Error) as error:
+    except (OSError, ValueError, csv.Error, CRSError) as error:
         sys.exit(f"roads.py: {error}")
 
 

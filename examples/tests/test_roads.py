@@ -98,6 +98,7 @@ def test_refusals(tmp_path: Path) -> None:
         ("longitude,latitude\n1\n", [], "roads.py: no number in field 2 of 1"),
         (f"longitude,latitude\n1,{'1' * 200_000}\n", [], "roads.py: field larger than field limit (131072)"),
         ("x,y\n1,1\n", [], "positions.csv: it has no columns longitude,latitude: give --columns X,Y"),
+        ("longitude,latitude\n1,1\n", ["--crs", "x"], "roads.py: Invalid projection: x: (Internal Proj Error: proj_create: unrecognized format / unknown name)"),
         ("longitude,latitude\n1,1\n", ["--nearest", "-1"], "argument --nearest: 1 or more"),
     ):
         assert_refused(run(tmp_path, [line(1, [(0, 0), (1, 1)])], positions, *options), why)

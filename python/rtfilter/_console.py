@@ -21,7 +21,7 @@ def reason(error: BaseException) -> str:
     """The text of an error: of one of the system the file and why, without its number."""
     if isinstance(error, OSError) and error.strerror:
         return f"{error.filename}: {error.strerror}" if error.filename else error.strerror
-    return str(error)
+    return str(error) or ("out of memory" if isinstance(error, MemoryError) else type(error).__name__)
 
 
 class Parser(argparse.ArgumentParser):

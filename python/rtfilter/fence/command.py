@@ -54,7 +54,7 @@ def main() -> int:
         return 1
     try:
         run(args, requests)
-    except (Refused, OSError, ValueError) as error:
+    except (Refused, OSError, ValueError, MemoryError) as error:
         say(NAME, reason(error))
         return 1
     return 0

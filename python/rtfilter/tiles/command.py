@@ -8,6 +8,7 @@ import logging
 import logging.handlers
 import os
 import signal
+import stat
 import sys
 import time
 from pathlib import Path
@@ -151,6 +152,8 @@ def loaded(args: argparse.Namespace, generation: int = 1) -> Served:
     for name in (args.table, args.names, args.layers, *sorted(Path(__file__).parent.glob("*.*"))):
         if name is not None:
             with open(name, "rb") as file:
+                if stat.S_ISFIFO(os.fstat(file.fileno()).st_mode):
+                    raise ValueError(f"{name}: a pipe can't be read twice: write it to a file first")
                 made_of.update(hashlib.file_digest(file, "blake2b").digest())
     return Served(Views(Boxes(Files(args.table, args.header, args.names, args.layers))), made_of.hexdigest(), generation)
 

@@ -10,11 +10,12 @@ same seed and number of boxes make the same map.
 import csv
 import math
 import random
+import sys
 from collections.abc import Iterator
 from pathlib import Path
 from typing import NamedTuple
 
-from .._console import Parser, whole
+from .._console import Parser, reason, whole
 from ..table import MOST_ENTRIES
 
 LAYERS = ["towns", "motorways", "main roads", "minor roads", "streets", "buildings"]
@@ -130,7 +131,10 @@ def main() -> None:
     parser.add_argument("--boxes", type=whole(1000, MOST_ENTRIES), default=100_000, metavar="N", help="boxes, 1000 or more (default 100000)")
     parser.add_argument("--seed", type=int, default=1, metavar="S", help="seed of the random numbers (default 1)")
     args = parser.parse_args()
-    write(args.folder, *some_map(random.Random(args.seed), args.boxes))
+    try:
+        write(args.folder, *some_map(random.Random(args.seed), args.boxes))
+    except OSError as error:
+        sys.exit(f"{parser.prog}: {reason(error)}")
 
 
 if __name__ == "__main__":

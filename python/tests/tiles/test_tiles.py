@@ -250,6 +250,11 @@ class Maps(unittest.TestCase):
         self.assertNotEqual((folder / "one/boxes.csv").read_bytes(), (folder / "other/boxes.csv").read_bytes())
         self.assertEqual(number_of(folder / "one/boxes.csv", "count all"), 2000)
 
+    def test_a_folder_that_cannot_be_made(self) -> None:
+        with self.assertRaises(subprocess.CalledProcessError) as raised:
+            make_map(Path("/dev/null/map"), 1000)
+        self.assertEqual(raised.exception.stderr, "rtfilter.tiles.make_map: /dev/null/map: Not a directory\n")
+
 
 def copy_map(table: Path) -> None:
     """Some copies of a map in one table, each a little aside, with ids of their own."""

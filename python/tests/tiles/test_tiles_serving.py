@@ -6,6 +6,7 @@ import gzip
 import json
 import os
 import re
+import resource
 import select
 import signal
 import socket
@@ -21,7 +22,7 @@ from typing import Any
 
 from aiohttp.test_utils import TestClient, TestServer
 from chromium import Chromium
-from support import LONGEST, ROOT, environment, opened_for_writing, until, wants
+from support import LONGEST, ROOT, environment, found, until, wants
 from tiles_support import BOXES, COMMAND, Mapped, Server, make_map
 
 from rtfilter.tiles import server as serving
@@ -32,6 +33,8 @@ from rtfilter.tiles.views import Views
 TILE = "/8/128/127.pbf"
 EMPTY = "/9/0/0.pbf"
 LAYERS = ["towns", "motorways", "main roads", "minor roads", "streets", "<b>buildings</b>"]
+ENDLESS = 1 << 38  # bytes
+MORE_MEMORY = 20_000_000  # bytes: enough for a thread, and for no million of boxes
 MOST_SECONDS = 0.02  # of processor time for a tile of some 100 boxes, which takes a tenth of that
 
 
@@ -278,6 +281,17 @@ class Reloads(unittest.TestCase):
             f"rtfilter-tiles: {self.table}: table record 6: wrong number of fields (1); the old table stays",
         ])  # fmt: skip
 
+    def test_a_table_for_which_there_is_no_memory(self) -> None:
+        """The old one stays, and a message says why."""
+        with Server(self.table) as server:
+            size = int(found(r"VmSize:\s*(\d+) kB", Path(f"/proc/{server.process.pid}/status").read_text())[1])
+            resource.prlimit(server.process.pid, resource.RLIMIT_AS, (size * 1024 + MORE_MEMORY,) * 2)
+            self.write(1_000_000)
+            server.process.send_signal(signal.SIGHUP)
+            until(lambda: metric(server, "rtfilter_loads_failed_total") == 1)
+            self.assertEqual(json.loads(server.get("/health")[1]), {"boxes": 5})
+            self.assertEqual(server.end(), (0, "rtfilter-tiles: out of memory; the old table stays\n"))
+
     def test_several_on_one_port(self) -> None:
         """With --reuse-port another process may listen too, and goes on where the first ends."""
         with Server(self.table, "--reuse-port") as one:
@@ -288,23 +302,28 @@ class Reloads(unittest.TestCase):
                 self.assertEqual(json.loads(other.get("/health")[1]), {"boxes": 5})
 
     def test_an_end_during_a_load(self) -> None:
-        """Whatever that waits for: here for somebody who writes the table. While it is loaded again the status is 0."""
-        pipe = self.folder / "pipe"
-        os.mkfifo(pipe)
+        """However long that takes: here minutes, for a file of nothing. While it is loaded again the status is 0."""
+        endless, linked = self.folder / "endless", self.folder / "linked"
+        endless.touch()
+        os.truncate(endless, ENDLESS)
         for number in (signal.SIGTERM, signal.SIGINT):
-            process = subprocess.Popen([*COMMAND, str(pipe)], env=environment())
-            writing = opened_for_writing(pipe)
+            process = subprocess.Popen([*COMMAND, str(endless)], env=environment())
+            until(lambda: is_read(process.pid, endless))
             process.send_signal(number)
             self.assertEqual(process.wait(LONGEST), -number)
-            os.close(writing)
             self.write(5)
             with Server(self.table) as server:
-                os.link(pipe, self.folder / "linked")
-                (self.folder / "linked").replace(self.table)
+                linked.hardlink_to(endless)
+                linked.replace(self.table)
                 server.process.send_signal(signal.SIGHUP)
-                writing = opened_for_writing(pipe)
+                until(lambda: is_read(server.process.pid, self.table))
                 self.assertEqual(server.end(number), (0, ""))
-                os.close(writing)
+
+    def test_a_table_from_a_pipe(self) -> None:
+        """It can't be read twice, and is refused."""
+        done = subprocess.run([*COMMAND, "/dev/stdin"], input="1,0,1,0,1\n", capture_output=True, text=True, env=environment(), timeout=LONGEST)
+        why = "rtfilter-tiles: /dev/stdin: a pipe can't be read twice: write it to a file first\n"
+        self.assertEqual((done.returncode, done.stderr), (1, why))
 
     def kept(self, connection: HTTPConnection) -> bytes:
         connection.request("GET", "/health")
@@ -411,6 +430,14 @@ class OwnFaults(unittest.IsolatedAsyncioTestCase):
                 reply = await client.get(target, headers={"Host": "localhost"})
                 self.assertEqual(reply.status, status)
             self.assertIn('rtfilter_replies_total{status="500"} 1\n', await reply.text())
+
+
+def is_read(process: int, file: Path) -> bool:
+    """Whether a process has a file open."""
+    try:
+        return any(os.path.samefile(it, file) for it in Path(f"/proc/{process}/fd").iterdir())
+    except FileNotFoundError:  # a descriptor that was closed meanwhile
+        return False
 
 
 def metric(server: Server, name: str) -> float:

@@ -21,7 +21,7 @@ HOSTILE_LAYER = "<b>buildings</b>"
 
 def make_map(folder: Path, boxes: int, seed: int = 1) -> None:
     words = [sys.executable, "-B", "-m", "rtfilter.tiles.make_map", folder, "--boxes", boxes, "--seed", seed]
-    subprocess.run([*map(str, words)], check=True, timeout=LONGEST, env=environment())
+    subprocess.run([*map(str, words)], check=True, timeout=LONGEST, env=environment(), stderr=subprocess.PIPE, text=True)
 
 
 def replies_of(table: Path, lines: Iterable[str]) -> list[list[str]]:
