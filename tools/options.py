@@ -50,7 +50,7 @@ def table(found):
     """The table of a page."""
     rows = ["| option | means | default |", "|---|---|---|"]
     for it in found:
-        means = re.sub(r"--[\w-]+|(?<!\S)(?:\.\.)?/[\w/]+|\[::1\]:\d+|https://[\w.]+", r"`\g<0>`", it.means)
+        means = re.sub(r"--[\w-]+|(?<!\S)(?:\.\.)?/[\w/]+|\[::1\]:\d+|https://[\w./]*[\w/]", r"`\g<0>`", it.means)
         rows.append(f"| `{it.names.replace(', ', '`, `')}` | {means} | {it.default} |")
     return "\n".join(["", *rows, ""])
 

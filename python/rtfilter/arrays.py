@@ -7,6 +7,7 @@ from collections.abc import Iterable, Iterator, Sequence
 from copy import copy
 from functools import cache
 from operator import index
+from threading import Event
 from typing import Any, Self
 
 import numpy
@@ -166,6 +167,7 @@ class Queries:
         self._members = MEMBERS[region]
         self._prototype = _engine.query_of(region, order, first, on)
         self.first = None if first is None else index(first)
+        self.stop: Event | None = None  # set by another thread, once no answers are needed
 
     def __len__(self) -> int:
         return len(self.columns[0]) if self.columns else 0
@@ -192,6 +194,8 @@ class Queries:
         queries = numpy.repeat(numpy.frombuffer(self._prototype, f"V{QUERY.itemsize}"), min(PART, len(self))).view(QUERY)
         formats = [QUERY[name].str for name in self._members]
         for begin in range(0, len(self), PART):
+            if self.stop is not None and self.stop.is_set():
+                raise InterruptedError("the call was broken off")
             columns = [it[begin : begin + PART] for it in self.columns]
             beyond = first_beyond(columns, formats)
             count = len(columns[0]) if beyond is None else beyond[0]

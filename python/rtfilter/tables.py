@@ -3,6 +3,7 @@
 from collections.abc import Callable, Iterable
 from itertools import chain
 from operator import index, itemgetter
+from threading import Event
 from typing import TYPE_CHECKING, Any, NoReturn
 
 from .calls import BulkCalls, SingleCalls
@@ -130,7 +131,7 @@ class Tables(SingleCalls, BulkCalls):
         for begin in range(0, len(queries), PART):
             some = queries.rows(slice(begin, begin + PART))
             jobs = _jobs(tables, merging.first_rows(some, merging.bounds_of(tables)))
-            for (_, rows), found in zip(jobs, _run(lambda table, rows: table._counted(some.rows(rows)), jobs, begin)):
+            for (_, rows), found in zip(jobs, _run(some, lambda table, rows: table._counted(some.rows(rows)), jobs, begin)):
                 counts[begin + rows] += found
         return counts
 
@@ -192,9 +193,9 @@ def _merged(tables: list[Rtfilter], queries: "Queries", begin: int) -> "Piece":
         return rows[places], ids, scores
 
     bounds = merging.bounds_of(tables)
-    pieces = _run(find, _jobs(tables, merging.first_rows(queries, bounds)), begin)
+    pieces = _run(queries, find, _jobs(tables, merging.first_rows(queries, bounds)), begin)
     if merging.is_in_two_goes(queries):
-        pieces += _run(find, _jobs(tables, merging.more_rows(queries, bounds, pieces)), begin)
+        pieces += _run(queries, find, _jobs(tables, merging.more_rows(queries, bounds, pieces)), begin)
     return merging.merged(len(queries), pieces, queries.first)
 
 
@@ -203,8 +204,11 @@ def _jobs(tables: list[Rtfilter], rows: "list[Rows]") -> "list[tuple[Rtfilter, R
     return [it for it in zip(tables, rows) if len(it[1])] or [(tables[0], rows[0])]
 
 
-def _run(ask: "Callable[[Rtfilter, Rows], Any]", jobs: "list[tuple[Rtfilter, Rows]]", begin: int) -> list[Any]:
+def _run(
+    queries: "Queries", ask: "Callable[[Rtfilter, Rows], Any]", jobs: "list[tuple[Rtfilter, Rows]]", begin: int
+) -> list[Any]:
     """What each table answers: in threads, if there are many queries. Raises the error of the first query that has one."""
+    stop = queries.stop = Event()
 
     def tried(job: "tuple[Rtfilter, Rows]") -> Any:
         try:
@@ -219,7 +223,10 @@ def _run(ask: "Callable[[Rtfilter, Rows], Any]", jobs: "list[tuple[Rtfilter, Row
         from concurrent.futures import ThreadPoolExecutor
 
         with ThreadPoolExecutor(len(jobs)) as threads:
-            found = [*threads.map(tried, jobs)]
+            try:
+                found = [*threads.map(tried, jobs)]
+            finally:  # (threads go on where a signal has broken off the wait for them)
+                stop.set()
     errors = [it for it in found if isinstance(it, QueryError)]
     if errors:
         raise min(errors, key=lambda it: it.place or 0)

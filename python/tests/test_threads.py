@@ -12,7 +12,7 @@ import numpy
 import pytest
 from support import LONGEST
 
-from rtfilter import All, Rtfilter, Window
+from rtfilter import All, Rtfilter, Tables, Window
 from rtfilter.zones import Zones
 
 COUNT, SPAN, FORKS = 100_000, 1_000_000, 400
@@ -83,7 +83,7 @@ def test_children_of_forks_in_the_middle_of_calls(table: Rtfilter, windows: Any)
     assert not raised
 
 
-@pytest.mark.parametrize("name", ["find_each", "nearest_each", "count_each", "holding_each"])
+@pytest.mark.parametrize("name", ["find_each", "nearest_each", "count_each", "holding_each", "Tables"])
 def test_a_signal_is_met_between_parts(table: Rtfilter, windows: Any, name: str) -> None:
     whole = numpy.tile([[0, SPAN, 0, SPAN]], (3000, 1))
     edges = whole - numpy.array([[0, 500_000, 0, 0]])
@@ -93,6 +93,7 @@ def test_a_signal_is_met_between_parts(table: Rtfilter, windows: Any, name: str)
         "find_each": lambda: table.find_each(whole),
         "nearest_each": lambda: table.nearest_each(whole[:, [1, 3]], COUNT),
         "count_each": lambda: table.count_each(numpy.tile(edges, (100, 1))),
+        "Tables": lambda: Tables([table] * 4).count_each(numpy.tile(edges, (100, 1))),
     }[name]
 
     def interrupt(*_: Any) -> None:
