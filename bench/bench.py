@@ -71,7 +71,7 @@ class Bench:
         self.differences = []
 
     def table(self, name, boxes, order="shuffled"):
-        """The path of a table, written where it isn't there."""
+        """The path of a table, written if it isn't there."""
         path = Path(self.folder, f"{name}-{boxes}-{order}.csv".replace(" ", "-"))
         return str(path) if path.exists() else write_table(path, name, boxes, order)
 

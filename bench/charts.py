@@ -140,7 +140,7 @@ class Panel:
         parts = []
         for name, place in places.items():
             words, weight = name.partition(": ")[2] or name, "bold" if name.startswith(OURS) else "normal"
-            # before its end where the line ends early
+            # before its end if the line ends early
             away, anchor = (9, "start") if ends[name] == level.high else (-9, "end")
             end = level.place(ends[name]) + away
             parts.append(text(end, place + 4, words, anchor, ink=ink(name), weight=weight))

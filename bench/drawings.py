@@ -92,7 +92,7 @@ def by_number(line):
 
 
 def meeting(ours, other):
-    """The number from which on rtfilter is ahead of another, and its value there; none where that isn't seen.
+    """The number from which on rtfilter is ahead of another, and its value there; None if that isn't seen.
 
     Between two numbers each line grows by as much for each, so that the place can be computed.
     """

@@ -33,7 +33,7 @@ def seconds_of(words, lines):
 
 
 def in_memory(table):
-    """The table as an R*Tree of SQLite in memory, where each statement is a transaction."""
+    """The table as an R*Tree of SQLite in memory; each statement is a transaction."""
     base = sqlite3.connect(":memory:", isolation_level=None)
     base.execute(CREATE)
     base.execute("BEGIN")
@@ -45,7 +45,7 @@ def in_memory(table):
 
 
 def few_queries(programs, table, database, folder):
-    """The seconds of whole runs by how many windows are asked: the load, where there is one, and the lines."""
+    """The seconds of whole runs by the number of windows: the load, if there is one, and the lines."""
     lines = lines_of(MAIN[WINDOW], Asker("uniform", BOXES))
     words = {name: [programs[name], table] for name in (OURS, SCAN) if name in programs}
     if shutil.which("sqlite3"):

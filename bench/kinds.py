@@ -13,7 +13,7 @@ ORDERS = "by id", "near", "smallest"
 
 
 class Asker:
-    """Lines about one table after the other place of it; a line's region is about so many boxes."""
+    """Lines about one table after the other place of it; a line's region has about this many boxes."""
 
     def __init__(self, name, boxes):
         self.chance = random.Random(3)
@@ -48,7 +48,7 @@ class Asker:
         return name, x, y
 
     def _inner(self, value, side):
-        """A value that is so far from the ends of the plane, where there is so much room."""
+        """A value at least this far from the ends of the plane, if it is wide enough."""
         most = max(0, SIDE - side)
         return int(max(-most, min(most, value)))
 
@@ -144,6 +144,6 @@ def is_of_the_tree(line):
 
 
 def lines_of(make, asker):
-    """Lines of a kind: one where all are the same."""
+    """Lines of a kind: one if all are the same."""
     first, second = make(asker), make(asker)
     return [first] if first == second else [first, second, *(make(asker) for _ in range(LINES - 2))]

@@ -13,7 +13,7 @@ PACKAGES = "g++", "libboost-dev", "libgeos++-dev", "libspatialindex-dev", "libsq
 
 
 def output_of(*words):
-    """What a command prints, in one line; nothing where it isn't there or fails."""
+    """What a command prints, in one line; nothing if it isn't there or fails."""
     try:
         return subprocess.run(words, cwd=ROOT, capture_output=True, text=True, check=True).stdout.strip()
     except (OSError, subprocess.CalledProcessError):

@@ -48,7 +48,7 @@ def status_of(process, *fields):
 def grown(make):
     """What a call adds to the memory of this process: in the end, and at most; and its seconds."""
     begun, before = time.process_time(), status_of("self", "VmRSS")[0]
-    Path("/proc/self/clear_refs").write_text("5")  # what was at most resident begins anew
+    Path("/proc/self/clear_refs").write_text("5")  # resets the peak of resident memory
     kept = make()
     seconds = time.process_time() - begun
     after, most = status_of("self", "VmRSS", "VmHWM")

@@ -33,7 +33,7 @@ class TooLong(Exception):
 
 
 def built(name):
-    """The path of a peer, compiled where it isn't there or its source is newer, and why there is none."""
+    """The path of a peer, compiled if it isn't there or its source is newer, and why there is none."""
     source, options = PEERS[name]
     path = ROOT / "build/peers" / Path(source).stem
     newest = max(file.stat().st_mtime for file in (SOURCES / source, SOURCES / "peer.hpp"))
@@ -89,7 +89,7 @@ class Session:
         return unread == 0 and state == "S"
 
     def _at_rest(self):
-        """The processor time once it waits for lines, which it does where two looks find it waiting."""
+        """The processor time once it waits for lines: two looks in a row find it waiting."""
         begun, before = None, None
         while True:
             seconds = self._seconds() if self._waits() else None

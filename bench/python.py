@@ -52,7 +52,7 @@ def sum_of(*arrays):
 
 
 def least(call, count=1, runs=RUNS):
-    """The least time of some runs for each of so many, and what the last gave."""
+    """The least time of some runs for each of `count`, and what the last gave."""
     best = None
     for _ in range(runs):
         begun = time.perf_counter()

@@ -3,7 +3,7 @@
 
 usage: bench/report.py [RESULTS | --pages | --check]
 
-Prints the tables of RESULTS, build/bench.json where it isn't named, and draws the pictures into build/bench. With
+Prints the tables of RESULTS, build/bench.json by default, and draws the pictures into build/bench. With
 `--pages` the tables of build/bench.json take their places in the pages, between the lines `<!-- table NAME -->` and
 `<!-- end of table -->`, and the pictures theirs in docs/pictures/measured, with the figures that they are drawn from.
 With `--check` nothing is written, and each page and each picture that isn't made of those figures is a failure; the
@@ -33,7 +33,7 @@ def figures(path):
 
 
 def with_tables(text, made):
-    """A page with each table where the page names it."""
+    """A page with each table in the place that names it."""
     for name, it in made.items():
         text = re.sub(rf"(?<=<!-- table {name} -->\n).*?(?=<!-- end of table -->)",
                       lambda _, it=it: f"\n{it}\n", text, count=1, flags=re.DOTALL)

@@ -5,7 +5,7 @@ usage: bench/scaling.py [--boxes N] [--tables T] [--workers W] [--queries Q]
 
 T tables of N / T boxes each, in this process, are queried as one; then the same boxes are partitioned over W workers of one thread
 each, asked the same questions, and asked again while a worker is killed. The answers have to be the same, row by row; the status is
-1 where they aren't. Prints seconds of the wall, microseconds of processor time a query and bytes of memory. W = 0 leaves dask out.
+1 if they aren't. Prints seconds of the wall, microseconds of processor time a query and bytes of memory. W = 0 leaves dask out.
 It wants the Python package built (make python), and python3-distributed of Debian 12.
 """
 
@@ -81,6 +81,8 @@ def in_one_process(boxes, tables, queries):
     windows, points = queries[SIDES].to_numpy(), queries[["x", "y"]].to_numpy()
     count = len(queries)
     found = timed("a window, in one call", count, lambda: many.find_each(windows))
+    by_min_x = windows[windows[:, 0].argsort()]
+    timed("a window, in one call, sorted by min_x", count, lambda: many.find_each(by_min_x))
     counts = timed("a count, in one call", count, lambda: many.count_each(windows))
     near = timed(f"the nearest {K}, in one call", count, lambda: many.nearest_each(points, K))
     return found, counts, near

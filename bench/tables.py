@@ -1,4 +1,4 @@
-"""Tables by how their boxes lie, and the places where they are asked."""
+"""Tables by how their boxes lie, and the places about which they are queried."""
 
 import bisect
 import itertools
@@ -7,7 +7,7 @@ import random
 
 SIDE = 10**9  # coordinates are at most so far from 0
 LAYERS = 8
-HITS = 20  # boxes, which a window of so many spaces in a square finds
+HITS = 20  # boxes: a window with the area of this many spaces between boxes finds about as many
 CROSS = 10**6  # how far from the middle long boxes cross
 
 
@@ -24,7 +24,7 @@ class Uniform:
         self.space = 2 * SIDE / math.sqrt(boxes)
 
     def place(self, chance):
-        """A point where to ask, and the space between two boxes there."""
+        """A point to query about, and the space between two boxes there."""
         return chance.uniform(-SIDE, SIDE), chance.uniform(-SIDE, SIDE), self.space
 
     def box(self, chance):
@@ -157,7 +157,7 @@ def shuffled(boxes):
     return ids
 
 
-# The ids of so many boxes.
+# The ids of a number of boxes.
 IDS = {
     "rising": range,
     "shuffled": shuffled,

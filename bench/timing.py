@@ -36,7 +36,7 @@ def text_of(lines, count):
 
 
 def turn_of(session, lines):
-    """So many lines that they take long enough, where that aren't too many, and how long they took."""
+    """As many lines as take long enough, up to a maximum, and how long they took."""
     count = 1
     while True:
         text = text_of(lines, count)

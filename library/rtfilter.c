@@ -29,7 +29,7 @@ static bool is_closed(const rtfilter_session *session)
     return session && !session->at;
 }
 
-/* Whether there is an array where there are items. */
+/* Whether there is an array, unless it has no items. */
 static bool has(const void *array, size_t len)
 {
     return array || len == 0;

@@ -2,7 +2,7 @@
 
 
 def difference(expected, found):
-    """What is wrong with a value that is found, or None where it is the expected one."""
+    """What is wrong with a value, or None if it is the expected one."""
     return None if found == expected else f"expected {expected!s:.500}\n  found    {found!s:.500}"
 
 

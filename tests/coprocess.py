@@ -33,7 +33,7 @@ ROWS = [(n, n % 9, n % 9 + n % 3, n // 9, n // 9 + n % 5) for n in range(COUNT)]
 TABLE = b"".join(b"%d,%d,%d,%d,%d" % row + (b",%d" % (row[0] % 6) if row[0] % 2 else b"") + b"\n" for row in ROWS)
 BOXES = reading.boxes(TABLE, False, 2**24)
 
-# How many lines wait for each other, and how long nothing comes where nothing is to come, and at most something does.
+# How many lines wait for each other; how long to wait to see that nothing comes; and how long for something.
 LINES = 10_000
 A_WHILE, TOO_LONG = 0.02, 20
 
@@ -53,7 +53,7 @@ def same(name, found, expected):
 
 @functools.lru_cache(None)
 def reply(line):
-    """The reply to a line, with a word in the place of its number, and whether the line is faulty."""
+    """The reply to a line, with a word instead of its number, and whether the line is faulty."""
     lines, bad = reading.reply(BOXES, FANOUT, 0, line)
     lines[-1:] = [last.replace(b" 0", b" NUMBER", 1) for last in lines[-1:]]
     return b"".join(it + b"\n" for it in lines), bad
@@ -96,7 +96,7 @@ class Held:
         return bool(select.select([self.process.stdout], [], [], seconds)[0])
 
     def read(self, size):
-        """So many bytes, or fewer where no more come."""
+        """This many bytes, or fewer if no more come."""
         found = b""
         while len(found) < size and self.comes(TOO_LONG):
             piece = self.process.stdout.read(size - len(found))
@@ -147,7 +147,7 @@ def waits_for_each_answer(start):
 
 
 def lines_in_two_writes(start):
-    """Each line is cut somewhere, and now and then its second part comes late. Until then nothing is told."""
+    """Each line is cut somewhere, and now and then its second part comes late. Until then nothing is printed."""
     chance = random.Random(2)
     with start() as held:
         for line in some_lines(3, LINES):
@@ -178,7 +178,7 @@ def several_lines_in_one_write(start):
 
 
 def more_answers_than_a_pipe_holds(start):
-    """The process waits where nobody reads, and goes on where somebody does."""
+    """The process waits while the reader doesn't read, and goes on once it does."""
     lines = [b"find all"] * 400
     with start() as held:
         expected = b"".join(map(held.next_reply, lines))
@@ -311,7 +311,7 @@ def pass_on(held, text, times):
 
 
 def the_same_memory_for_many_lines(start, lines):
-    """What is resident doesn't grow, as far as the system counts it: by parts, of which some are told late."""
+    """What is resident doesn't grow, as far as the system counts it: in parts, some of them reported late."""
     text = b"find window 3 4 5 6\nnearest 3 1 1\nfind all smallest\nx\nfind all on 1,5\n" + b"count all\n" * 995
     with start() as held:
         pass_on(held, text, 1)
@@ -337,7 +337,7 @@ def writes_of(program, folder, queries):
 
 
 def few_writes_for_a_file(program, folder, lines):
-    """The answers to a file of queries go out in large pieces: where no reader waits, a line is no system call."""
+    """The answers to a file of queries go out in large pieces: if no reader waits, a line is no system call."""
     status, packets, output = writes_of(program, folder, b"count all\n" * lines)
     print(f"{packets} packets of at most 4096 bytes for {lines} replies of {len(output)} bytes")
     same("status", status, 0)

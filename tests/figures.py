@@ -69,7 +69,7 @@ def table_of(text, name):
 
 
 def found(text, words):
-    """The figures in the place of each {} of some words, or none if a text hasn't these words."""
+    """The figures for each {} of some words, or none if a text hasn't these words."""
     pattern = FIGURE.join(re.escape(part) for part in " ".join(words.split()).split("{}"))
     match = re.search(pattern, " ".join(text.split()))
     return list(match.groups()) if match else []

@@ -21,7 +21,7 @@ sys.dont_write_bytecode = True
 from checks import status_of
 from pictures import PAGE, grammar
 
-# Numbers that suit each other, and the vertices of a polygon in the place of its points.
+# Numbers that suit each other, and the vertices of a polygon for its points.
 SMALL = {"X1": 0, "X2": 10, "Y1": 0, "Y2": 10, "X": 3, "Y": 4, "R": 5, "K": 2, "N": 3, "LIST": 0}
 VERTICES = [("X", 0), ("Y", 0), ("X", 9), ("Y", 0), ("X", 0), ("Y", 9)]
 
@@ -51,7 +51,7 @@ def ways_in_turn(rules, tokens):
     first, rest = tokens[0], tokens[1:]
     if first in "[{":
         end = tokens.index("]" if first == "[" else "}")
-        # Only a polygon's points come again, and these are put in where N stands.
+        # Only a polygon's points come again, and these are put in for N.
         inner = [[], *ways(rules, tokens[1:end])] if first == "[" else [[]]
         rest = tokens[end + 1:]
     elif first == "N":
@@ -92,7 +92,7 @@ def number_cases(way, at, name, ends):
 
 
 def list_cases(way, at, least, most):
-    """The list at this place with several parts, of which the first that is at fault is told."""
+    """The list at this place with several parts, of which the first faulty one is reported."""
     no_number, beyond = "error .* Q5 not a number", "error .* Q6 out of range"
     for parts, reply in (
         ((least, most, least), r"ok \d+ \d+"),

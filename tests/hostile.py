@@ -50,7 +50,7 @@ TABLES = {
     "ids in a thousand runs": lambda at, count: (saw(at, count), saw(at, count), 10**9, 0, saw(at, count)),
 }
 
-# One box in the middle of all has a layer of its own, for which so many lines ask in each form. One node of each level
+# One box in the middle of all has a layer of its own, for which as many lines ask in each form. One node of each level
 # is opened for it.
 RARE = 63
 LINES = 5000
@@ -108,7 +108,7 @@ def nearest_lines(count):
     return lines, b"".join(expected)
 
 
-# Points on a grid, so far apart, and lines of every kind that each have to do with a few of them, near one place: so many
+# Points on a grid, this far apart, and lines of every kind that each have to do with a few of them, near one place: so many
 # of each kind. To look at a million boxes takes some milliseconds, so that a kind that did would take too long by itself.
 APART = 1000
 EACH = 10_000
@@ -148,7 +148,7 @@ def on_a_grid(at, count):
 
 
 def lines_of_every_kind(program, table):
-    """Lines of every kind, and their replies: what one line of the kind is told, which is tested elsewhere, each with its
+    """Lines of every kind, and their replies: what one line of the kind gets, which is tested elsewhere, each with its
     number. Of the kinds the last two have no reply."""
     once = answers(program, table, "".join(f"{line}\n" for line in KINDS).encode())[0] or b""
     parts = re.findall(rb"((?:-?\d+ \d+\n)*(?:ok|error) )(\d+)( .*\n)", once)
@@ -159,7 +159,7 @@ def lines_of_every_kind(program, table):
 
 
 def answers(program, table, lines):
-    """What the program says to lines, and the seconds; nothing where it didn't end."""
+    """What the program says to lines, and the seconds; nothing if it didn't end."""
     start = time.perf_counter()
     try:
         ended = subprocess.run([program, table], input=lines, capture_output=True, timeout=SECONDS)

@@ -3,7 +3,7 @@
 
 usage: tests/instructions.py PROGRAM [--show]
 
-Work that a change adds by mistake, where the answers stay right, shows in no other test: a search before each count, an
+Work that a change adds by mistake, if the answers stay right, shows in no other test: a search before each count, an
 order that is sorted twice, a polygon that isn't prepared. Instructions hardly change from run to run, whatever else the
 machine does, so that a tenth more is seen. A tenth less fails as well: then the number stored here is no longer the
 program's. `--show` prints the numbers as they are now. They are counted by valgrind's callgrind; without it all of this is
@@ -59,7 +59,7 @@ KINDS = {
     "a comment": (141, 1000, lambda x, y: f"# {x} {y}"),
 }
 
-# How far a box is from the next, where they are even.
+# The distance from a box to the next, if they are uniform.
 SPACE = 2 * SIDE // int(BOXES**0.5)
 
 
@@ -128,7 +128,7 @@ def main(program: str, shows: bool) -> int:
             print(f"{name:32} {now:10}")
         if abs(now - stored) > TOLERANCE * stored:
             failed += 1
-            print(f"{name}: {now} instructions, where {stored} are stored", file=sys.stderr)
+            print(f"{name}: {now} instructions, and {stored} are stored", file=sys.stderr)
     print(f"{len(found) - failed} passed, {failed} failed")
     return failed > 0
 

@@ -1,4 +1,4 @@
-"""Exceptions that come where the handler of a signal may raise, at each moment in turn."""
+"""Exceptions at each moment at which the handler of a signal may raise."""
 
 import sys
 from collections.abc import Callable, Collection
@@ -7,7 +7,7 @@ from types import FrameType
 
 def is_interrupted(call: Callable[[], object], number: int, files: Collection[str] = ()) -> bool:
     """Makes a call, in which `KeyboardInterrupt` comes at the moment of this number, from 1, of those at which Python may call
-    the handler of a signal: as a function begins, and behind each call, in these files, or in all. Whether it has so many.
+    the handler of a signal: as a function begins, and behind each call, in these files, or in all. Whether there are so many such moments.
 
     Which moments these are is CPython's: between what `with` calls and its block, say, there is none.
     """

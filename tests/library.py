@@ -36,7 +36,7 @@ HEADER = (ROOT / "include/rtfilter.h").read_text(encoding="utf-8")
 WARNINGS = ["-Wall", "-Wextra", "-Wpedantic", "-Werror"]
 LONGEST = 300  # seconds of one command
 AT_ONCE = 2  # checks
-LINES, TABLES = 100_000, 20  # random lines in all, over so many tables
+LINES, TABLES = 100_000, 20  # random lines in all, and the tables over which they go
 INSTRUCTIONS = {  # of a query in C, by its kind (tests/library/queries.c), how many are asked, and the capacity for answers
     ("window", 300, 64): 4326,
     ("window on", 300, 64): 8896,
@@ -650,7 +650,7 @@ class Checks:
 
 
 def fault_of(line):
-    """The fault that the program's line tells, in numbers."""
+    """The fault that the program's line reports, in numbers."""
     record, cause = re.fullmatch(r"rtfilter: table record (\d+): (.*)\n", line).groups()
     for kind, pattern in enumerate(FAULTS, 1):
         if found := re.fullmatch(pattern, cause):
@@ -673,7 +673,7 @@ def fault_of_rows(rows, most):
 
 
 def outcome(check):
-    """Whether a check passed, or None where it was skipped, and what it said."""
+    """Whether a check passed, or None if it was skipped, and what it printed."""
     name, begun = check.__name__.removeprefix("check_").replace("_", " "), time.monotonic()
     try:
         check()

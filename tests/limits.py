@@ -5,7 +5,7 @@ usage: tests/limits.py PROGRAM
 
 Tables and queries of hundreds of megabytes, of which little counts; records, numbers, names and words that are long; a
 read that fails late, and faults of late records. Five boxes fit in 8 MB of address space. A million take, once they are
-loaded, no more bytes each than BYTES_A_BOX says. Answers are handed on in pieces of some 64 kB: where strace is there,
+loaded, no more bytes each than BYTES_A_BOX says. Answers are handed on in pieces of some 64 kB: if strace is installed,
 their writes are looked at. The last line is `N passed, M failed`.
 """
 
@@ -30,7 +30,7 @@ SECONDS = 120
 # The most bytes of address space, of memory at its peak, and of memory once the table is loaded, by the system's names.
 BYTES_A_BOX = {"VmPeak": 200, "VmHWM": 65, "VmRSS": 40}
 
-# The most bytes of one write, and the fewest on average where much is written.
+# The most bytes of one write, and the fewest on average if much is written.
 MOST_WRITTEN = 1 << 16
 FEWEST_WRITTEN = 1 << 15
 
@@ -51,7 +51,7 @@ def fed(program, words, pieces):
     with subprocess.Popen(
         [program, *words], stdin=subprocess.PIPE, stdout=subprocess.PIPE, stderr=subprocess.PIPE
     ) as process:
-        with contextlib.suppress(BrokenPipeError):  # it has ended already, as its status tells
+        with contextlib.suppress(BrokenPipeError):  # it has ended already, as its status says
             for piece in pieces:
                 process.stdin.write(piece)
         out, errors = process.communicate(timeout=SECONDS)
@@ -141,7 +141,7 @@ def late_failure(program, table, folder):
 
 
 def memory(program, folder):
-    """Bounds of memory that are told in bytes."""
+    """Bounds of memory in bytes."""
     five = folder / "five.csv"
     limit = 8 * MEGABYTE
     yield "five boxes in 8 MB", well(b"ok 1 5\n"), run(

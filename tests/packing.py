@@ -4,8 +4,8 @@
 usage: tests/packing.py [--rows]
 
 Nothing in here is of the crate's code or of its definitions. A test of rt_tree makes the tables that are made here,
-packs them, and tells each whole tree, every entry and every node of it, by one number:
-`crates/rt_tree_tests/src/trees.rt` has the numbers that it must tell. They are compared with those of the trees that
+packs them, and identifies each whole tree, every entry and every node of it, by one number:
+`crates/rt_tree_tests/src/trees.rt` has the expected numbers. They are compared with those of the trees that
 are packed here. `--rows` prints the rows of that file in place of that. The last line is `N passed, M failed`.
 """
 

@@ -103,7 +103,7 @@ def error_of(line):
 
 
 def polygon(vertices):
-    """A line with a polygon of so many vertices, which lie on a parabola."""
+    """A line with a polygon of this many vertices, which lie on a parabola."""
     return error_of(f"count polygon {vertices} {' '.join(f'{at} {at * at}' for at in range(vertices))}")
 
 
@@ -244,7 +244,7 @@ def logics(text):
 
 
 def names_of_the_logic():
-    """The pages that name a logic, each with those that it names, and the toolchain's own; none where it isn't here."""
+    """The pages that name a logic, each with those that it names, and the toolchain's own; none if it isn't here."""
     if shutil.which("rt") is None:
         print("skipped: the logic that the pages name, since rt isn't on the path")
         return

@@ -167,7 +167,7 @@ def grammar():
     return rules
 
 
-# The rules that have a picture. The others are short, and are drawn where they are named.
+# The rules that have a picture. The others are short, and are drawn inside those that name them.
 DRAWN = "query", "question", "region"
 
 
@@ -514,7 +514,7 @@ def children(node, items):
     return items[node.first : node.first + node.count]
 
 
-# A search for the nearest boxes to a point, stopped once so many items were taken out.
+# A search for the nearest boxes to a point, stopped once this many items were taken out.
 SEARCHED, POINT, TAKEN = 27, (27, 17), 5
 
 
@@ -581,7 +581,7 @@ def listed(names):
     return f"{', '.join(front)} and {last}" if front else last
 
 
-# A window over examples/data/uneven.csv, whose larger boxes have a layer of their own; its units are drawn so many to one.
+# A window over examples/data/uneven.csv, whose larger boxes have a layer of their own; the scale is in pixels a unit.
 UNEVEN = (30, 34, 30, 34)
 SCALE, FANOUT = 4, 4
 

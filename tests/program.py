@@ -96,7 +96,7 @@ def table_fault(words, text):
     return words, FIND, 3, b"", b"rtfilter: table record " + text + b"\n"
 
 
-# Lines on layers, each with its reply over layers.csv, where it is line 1.
+# Lines on layers, each with its reply over layers.csv as line 1.
 ON_LAYERS = {
     b"find all on 3": b"1 0\nok 1 1\n",
     b"find all on 0,3": b"1 0\n2 0\nok 1 2\n",
@@ -131,7 +131,7 @@ ON_LAYERS = {
     b"levels on 0": b"error 1 Q10 stray word\n",
 }
 
-# Lines that ask for a cost, each with its reply over boxes.csv and a fanout of 2, where it is line 1.
+# Lines that ask for a cost, each with its reply over boxes.csv and a fanout of 2, as line 1.
 COSTS = {
     b"cost nearest 2 12 12": b"ok 1 3\n",
     b"cost nearest 3 12 12": b"ok 1 5\n",
@@ -281,7 +281,7 @@ RUNS = [
 
 
 def run(program, words, folder, **streams):
-    """Status, standard output where it is a pipe, and standard error."""
+    """Status, standard output if it is a pipe, and standard error."""
     try:
         done = subprocess.run([program, *words], cwd=folder, stderr=subprocess.PIPE, timeout=60, **streams)
     except subprocess.TimeoutExpired:
@@ -312,7 +312,7 @@ def closed(program, words, folder, stream, **streams):
 
 
 def little_memory(program, words, folder, memory):
-    """A run whose address space has so many bytes, its code included."""
+    """A run whose address space has this many bytes, its code included."""
     return run(
         program, words, folder, input=FIND, stdout=subprocess.PIPE,
         preexec_fn=lambda: resource.setrlimit(resource.RLIMIT_AS, (memory, memory)),
@@ -335,7 +335,7 @@ def least_memory(program, folder):
 
 
 def endless_line(program, folder, memory):
-    """Whether a run goes on in so many bytes of address space whose queries are one line without an end, and what it
+    """Whether a run goes on in this many bytes of address space whose queries are one line without an end, and what it
     leaves when it is killed."""
     held = subprocess.Popen(
         [program, "boxes.csv", "/dev/zero"], cwd=folder, stdout=subprocess.PIPE, stderr=subprocess.PIPE,
@@ -372,7 +372,7 @@ def through_pipe(program, words, folder, pieces):
     return found
 
 
-def opened_anew(program, words, folder, name):
+def opened_again(program, words, folder, name):
     """A run whose standard input is a file that was read to its end."""
     with open(Path(folder, name), "rb") as read:
         read.seek(0, os.SEEK_END)
@@ -396,7 +396,7 @@ def single(text):
 
 
 def in_terminal(program, folder):
-    """A run whose queries come from a terminal, where the end is told once."""
+    """A run whose queries come from a terminal, which reports the end once."""
     ours, theirs = os.openpty()
     try:
         os.write(ours, FIND + b"\x04")
@@ -448,7 +448,7 @@ def outcomes(program, folder):
     one_more = left_open(program, ["--max-entries", "5", "/dev/stdin", "queries"], folder, BOXES + b"6,0,0,0,0\n")
     yield "one record more, and no end", (3, b"", b"rtfilter: table record 6: too many entries\n"), one_more
     for words, name in ((["/dev/stdin", "queries"], "boxes.csv"), (["boxes.csv", "/dev/stdin"], "queries")):
-        yield f"{words}, read before", (0, FOUND, b""), opened_anew(program, words, folder, name)
+        yield f"{words}, read before", (0, FOUND, b""), opened_again(program, words, folder, name)
     yield "queries from a terminal", (0, FOUND, b""), in_terminal(program, folder)
 
 

@@ -4,7 +4,7 @@
 usage: tests/pytests.py PROGRAM [--archive ARCHIVE] [--need-all] [--only NAME]..
 
 Each part of PARTS, or those that are named, is tried by pytest in a process of its own, two at a time, with a copy of the
-program, beside what a service loads into it where there is a C compiler. ARCHIVE is the library's proved archive, of which
+program, beside what a service loads into it if there is a C compiler. ARCHIVE is the library's proved archive, of which
 librtfilter and the extension of the Python package are made; without it that of build/ is used. A test that needs what isn't
 installed is skipped and named; with --need-all it has failed. The last line is `N passed, M failed`.
 """
@@ -45,7 +45,7 @@ def make(*words):
 
 
 def copied(program, folder):
-    """A copy of the program, which any user may run, and what a service loads where it can be built."""
+    """A copy of the program, which any user may run, and what a service loads if that can be built."""
     os.chmod(folder, 0o755)
     if shutil.which("cc"):
         make(PREFORK)

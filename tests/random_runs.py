@@ -286,7 +286,7 @@ def some_costs(chance, boxes):
 
 
 def some_limited(chance):
-    """A line that asks for so many boxes of a region in which there may be more, after or before one for others."""
+    """A line that asks for a number of boxes of a region in which there may be more, after or before one for others."""
     if chance.random() < 0.2:
         return b" ".join([b"nearest", b"%d" % chance.choice(FEW_AND_MANY), *some_point(chance)])
     region = chance.choice([[b"all"], some_wide_region(chance)])
@@ -434,7 +434,7 @@ def some_queries(chance):
 
 
 def differs(program, folder, chance, met):
-    """Makes a run, and tells it where it isn't as expected. The kinds of lines of the output are counted."""
+    """Makes a run, and reports it if it isn't as expected. The kinds of lines of the output are counted."""
     table, queries = some_table(chance), some_queries(chance)
     header, most = chance.random() < 0.2, chance.choice([MOST_ENTRIES] * 9 + [5, 1])
     fanout = chance.choice(FANOUTS)
@@ -458,7 +458,7 @@ def costs_differ(program, folder, chance, met):
 
 
 def limits_differ(program, folder, chance, met):
-    """The same of a run over many boxes, of which so many are asked for."""
+    """The same of a run over many boxes, with a limit."""
     table, fanout = some_many_boxes(chance), chance.choice(FANOUTS)
     lines = [some_limited(chance) for _ in range(12)]
     expected = reading.expected(table, b"".join(line + b"\n" for line in lines), fanout=fanout)
@@ -469,7 +469,7 @@ def limits_differ(program, folder, chance, met):
 
 
 def difference(program, folder, table, queries, header, most, fanout, expected):
-    """Makes a run, and tells it where it isn't what is wanted."""
+    """Makes a run, and reports it if it isn't as required."""
     Path(folder, "table").write_bytes(table)
     words = ["--header"] * header + ["--fanout", str(fanout), "--max-entries", str(most), "table"]
     done = subprocess.run([program, *words], cwd=folder, input=queries, capture_output=True, timeout=60)
@@ -480,7 +480,7 @@ def difference(program, folder, table, queries, header, most, fanout, expected):
 
 
 def kinds(at, line, output):
-    """What a line is a case of: its fault, or its verb, region, order and limit; with `on` or `cost` it is told too."""
+    """What a line is a case of: its fault, or its verb, region, order and limit; with `on` or `cost` that is named too."""
     ending = re.search(rb"^(ok|error) %d ([^ \n]*)" % at, output, re.MULTILINE)
     if ending is None:
         return ["skipped"]
@@ -509,7 +509,7 @@ def cost_kinds(boxes, fanout, line, cost):
 
 
 def limit_kinds(boxes, line):
-    """What a line with a limit is a case of: which limit, where there are more answers."""
+    """What a line with a limit is a case of: which limit, if there are more answers."""
     query = reading.question(reading.Words(line))
     if query.limit in FEW_AND_MANY and query.limit < len(reading.answers(boxes, query.region.accepts, query.score, None)):
         yield f"a limit of {query.limit} below"
@@ -529,7 +529,7 @@ WHOLE |= {f"field 6 is {fault}" for fault in ("not a number", "out of range")}
 
 
 def lacks(met, seeds):
-    """What the runs of so many seeds met too seldom: less than once in every fourth seed."""
+    """What the runs of a number of seeds met too seldom: less than once in every fourth seed."""
     seldom = [f"{kind} ({met[kind]})" for kind in sorted(WHOLE) if met[kind] < seeds // 4]
     return seldom + [f"errors ({met['error']}) beside {met['ok']} answered lines"] * (met["error"] < met["ok"])
 

@@ -100,7 +100,7 @@ def judged(fields, ids):
 
 
 def boxes(text, header, most):
-    """The boxes of a table by id, or the line that tells its first fault."""
+    """The boxes of a table by id, or the line that reports its first fault."""
     found = {}
     for at, fields in enumerate(records(text), 1):
         if header and at == 1:
@@ -153,7 +153,7 @@ def is_strictly_convex(vertices):
 
 
 def cut(vertices, depth):
-    """What is left of a convex polygon where `depth`, which goes evenly along each edge, is at least 0."""
+    """The part of a convex polygon in which `depth`, which is linear along each edge, is at least 0."""
     left, ends = [], [(vertex, depth(vertex)) for vertex in vertices]
     for (a, depth_a), (b, depth_b) in zip(ends, [*ends[1:], *ends[:1]]):
         if depth_a >= 0:
@@ -185,7 +185,7 @@ class Fault(Exception):
 
 
 def number_in(text, ends, fault="Q6"):
-    """The number that a text writes, where it has one and it lies between these ends."""
+    """The number that a text writes, if it is one between these ends."""
     value = number(text)
     if value is None:
         raise Fault("Q5")
@@ -243,7 +243,7 @@ def near(point):
 
 
 class Region(NamedTuple):
-    """Which boxes a region accepts, the score of a box where no order is named, and what is known of the boxes in a node:
+    """Which boxes a region accepts, the score of a box if no order is named, and what is known of the boxes in a node:
     all are accepted (FULLY), none (NOT), or perhaps some (PARTLY)."""
 
     accepts: Callable
@@ -286,7 +286,7 @@ def covering(window):
 
 
 def in_polygon(vertices):
-    """A node lies in the polygon where its corners do."""
+    """A node lies in the polygon if its corners do."""
 
     def state(item):
         if not shares_a_point(vertices, item.box):
@@ -371,7 +371,7 @@ def opened(table, fanout, query):
 
 
 def query_reply(table, fanout, words):
-    """The lines that answer a query before the last, and the number that the last one tells."""
+    """The lines that answer a query before the last, and the number in the last one."""
     if words.takes(b"levels"):
         words.end()
         sizes = level_sizes(len(table), fanout)

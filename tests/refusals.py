@@ -6,11 +6,11 @@ usage: tests/refusals.py PROGRAM
 Whichever growth of memory is refused, and whether those after it are too, the program ends in status 6 with nothing on
 standard output; once the table is loaded there is none. A refused read is one of the table or a pull, a refused write
 leaves a front of the answers, and no other write follows it. A read or a write that moves a single byte changes
-nothing, one that tells a fault on standard error among them.
+nothing, one that reports a fault on standard error among them.
 
-Single calls are tests of the crates, which `rt ci` and `rt test` leave in out/: where one of their growths is refused,
-they check that it is told as want of memory, that nothing else changed and that the same call then succeeds, and say
-so. One that isn't built is told and not counted. The calls are refused by tests/refuse.c: without a C compiler nothing
+Single calls are tests of the crates, which `rt ci` and `rt test` leave in out/: if one of their allocations is refused,
+they check that it is reported as out of memory, that nothing else changed and that the same call then succeeds, and say
+so. One that isn't built is named and not counted. The calls are refused by tests/refuse.c: without a C compiler nothing
 is run. The last line is `N passed, M failed`.
 """
 
@@ -57,7 +57,7 @@ FILES = {
     "wide.csv": b"1" + b",1" * 5000 + b"\n",
 }
 
-# Words, standard input, and what the run gives where nothing is refused.
+# Words, standard input, and what the run gives if nothing is refused.
 RUNS = [
     (["boxes.csv", "queries.txt"], b"", (0, ANSWERS, b"")),
     (["-H", "--fanout", "2", "--max-entries", "5", "header.csv"], QUERIES, (0, ANSWERS, b"")),
@@ -197,7 +197,7 @@ def devices(refuser, program):
 
 
 def long_answers(refuser, program):
-    """Writes that fail or are interrupted where one reply is more than the buffer of standard output holds."""
+    """Writes that fail or are interrupted, with a reply longer than the buffer of standard output."""
     queries = b"find all\n" * 3
     answered = reading.expected(MANY, queries)
     for name, error in (("writes", errno.EIO), ("writes that are interrupted", errno.EINTR)):
@@ -226,7 +226,7 @@ def given_up(refuser, program):
 
 
 def opens(refuser, program):
-    """TABLE is opened once, and then QUERIES once, where they are named."""
+    """TABLE is opened once, and then QUERIES once, if they are named."""
     for words, expected in ((["boxes.csv", "queries.txt"], NOT_OPENED), (["boxes.csv"], NOT_OPENED[:1])):
         found, whole = refuser.each([program, *words], Refusal("open", errno.EACCES, ONCE), QUERIES)
         wrong = differences([*found, whole], [*([one] for one in expected), [(0, ANSWERS, b"")]])

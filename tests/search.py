@@ -3,7 +3,7 @@
 
 It makes the tables of crates/rt_search_tests/src/random.rt, packs them sort-tile-recursively, searches and counts in
 them, on all layers and on some, and compares a digest of all answers, of the nodes opened after each and of the checks
-made with the number that stands there. A test of the crate compares the same number with what its search tells. The
+made with the number that stands there. A test of the crate compares the same number with what its search reports. The
 last line is `N passed, M failed`.
 
 usage: tests/search.py [--rows]
@@ -47,7 +47,7 @@ class Row:
         return (*self.sides(lie), *self.sides(lie))
 
     def entry(self, place, lie, layers):
-        """A box and its layer: one of so many, at random or, where there are none, by the box's place."""
+        """A box and its layer: one of a number of layers, at random, or, without a number, by the box's index."""
         box = self.box(lie)
         layer = self.next() % layers if layers else (box[0] - LEAST) * ALL_LAYERS // 2**32
         return Item(box, 0, None, place * 7919 % 65537 - 32768, {layer})
@@ -142,7 +142,7 @@ def in_circle(centre, radius):
 
 
 def on_layers(inner, selected):
-    """The boxes of which a layer is asked for. A node is full only where all of its layers are."""
+    """The boxes of which a layer is asked for. A node is full only if all of its layers are."""
     def state(item):
         if not item.layers & selected:
             return NOT

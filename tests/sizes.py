@@ -3,8 +3,8 @@
 
 usage: tests/sizes.py PROGRAM [--full]
 
-Each fanout from 2 to 64 at the sizes around its powers up to 64 * 64 * 64, where a tree gains a level, and each size from
-0 to a thousand: whatever is made for so many boxes, there is room for it. With --full instead the greatest table that is allowed, of
+Each fanout from 2 to 64 at the sizes around its powers up to 64 * 64 * 64, at which a tree gains a level, and each size from
+0 to a thousand: whatever is made for that many boxes fits. With --full instead the greatest table that is allowed, of
 16,777,216 boxes, and one of a box more: it takes some 1 GB of memory, and half a minute. The last line is `N passed, M
 failed`.
 """
@@ -40,7 +40,7 @@ def level_sizes(count, fanout):
 
 
 def expected(count, fanout):
-    """Status, standard output and standard error of a run over so many boxes."""
+    """Status, standard output and standard error of a run over this many boxes."""
     sizes = level_sizes(count, fanout)
     lines = [f"{level} {size}" for level, size in reversed(list(enumerate(sizes)))]
     lines += [f"ok 1 {len(sizes)}", f"ok 2 {count}"]

@@ -1,4 +1,4 @@
-"""What tests around the program share: where things are, and the examples of pages."""
+"""What tests around the program share: paths, and the examples of pages."""
 
 import errno
 import os
@@ -60,7 +60,7 @@ def printed(page: Path, tool: str, path: str = "") -> Iterator[tuple[str, str, s
 
 
 def wants(*tools: str) -> None:
-    """Skips a test that needs these tools where one of them isn't installed."""
+    """Skips a test that needs these tools if one of them isn't installed."""
     missing = [tool for tool in tools if shutil.which(tool) is None]
     if missing:
         raise unittest.SkipTest(f"{', '.join(missing)}: not installed")

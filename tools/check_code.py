@@ -1,7 +1,7 @@
 #!/usr/bin/env python3
 """Compares the code that the pages of docs/ show with the code that the gate proves.
 
-The line right above a fenced block of Rattle or antt says where the block comes from:
+The line right above a fenced block of Rattle or antt says from where the block comes:
 
 - `<!-- from PATH -->`: it stands, line for line, in the file PATH of this repository.
 - `<!-- from PATH as FILE -->`: the same, as it reads in the file FILE of a reader's own crate, which is
@@ -29,7 +29,7 @@ READERS_SPECS = "Rattle.my_geometry.specs."
 
 
 class Block:
-    """A fenced block of a page: where it stands, its language, its lines, what the line above names."""
+    """A fenced block of a page: its position, its language, its lines, what the line above names."""
 
     def __init__(self, page, number, language, above, lines):
         source = SOURCE.fullmatch(above.strip())

@@ -6,8 +6,8 @@ a file in brackets has the calls before it. So are the calls of the second table
 of a box, and those of the third, from an export of the library to the search. Definitions that have to be believed are counted
 by tools/definitions.py.
 
-Run from anywhere: `python3 tools/counts.py`. `--check` fails where one of these calls isn't called by the one before it,
-and where a line of a clause has more than 100 columns; its last line is `N passed, M failed`.
+Run from anywhere: `python3 tools/counts.py`. `--check` fails if one of these calls isn't called by the one before it,
+or if a line of a clause has more than 100 columns; its last line is `N passed, M failed`.
 """
 
 import argparse
@@ -55,7 +55,7 @@ def calls_of(table):
 
 
 def body_of(crate, file, name):
-    """The text of a function, or `None` where it isn't there. A method is looked for in what is written for its type."""
+    """The text of a function, or `None` if it isn't there. A method is looked for in what is written for its type."""
     path = CRATES / crate / "src" / file
     text = re.sub(r"//.*", "", path.read_text(encoding="utf-8")) if path.is_file() else ""
     owner, _, function = name.rpartition("::")
@@ -78,7 +78,7 @@ def long_lines(path):
 
 def main():
     parser = argparse.ArgumentParser(description=__doc__.splitlines()[0])
-    parser.add_argument("--check", action="store_true", help="fail where the call path of a query line isn't so, or a clause is too wide")
+    parser.add_argument("--check", action="store_true", help="fail if the call path of a query line isn't so, or a clause is too wide")
     check = parser.parse_args().check
     ways = ways_of_a_line()
     if not check:

@@ -4,8 +4,8 @@
 These are the definitions in `crates/*/specs/*.antt` that contracts of public calls reach: those that a clause names,
 those that these name, and so on. A line counts unless it is blank, a comment, an import or a fixity.
 
-- A call is public where `src/lib.rt` of its crate hands on the function, or the type or the trait in which it stands, and
-  where it is exported to C.
+- A call is public if `src/lib.rt` of its crate re-exports the function, or its type or trait, or
+  if it is exported to C.
   Its contract is its clauses. What a trait asks of a type, what a type says of itself as one, and what it is seen as
   count as well. The view and the invariant of a type don't: they speak of its fields, which no caller sees.
 - What the headline reaches, which is one clause of one call, is printed beside what all of them reach.
@@ -14,8 +14,8 @@ those that these name, and so on. A line counts unless it is blank, a comment, a
 - What only SAID_AGAIN reaches is printed apart: it follows from what other clauses say, or nobody has to know it.
 - Lemmas, in `specs/Lemmas`, are proved: nobody has to believe them. Types that the code declares are read there.
 
-Run from anywhere: `python3 tools/definitions.py`. `--names` prints each definition. `--check` fails where
-there are more lines than MOST_LINES, or where docs/internals/design.md names other files; its last line is `N passed, M failed`.
+Run from anywhere: `python3 tools/definitions.py`. `--names` prints each definition. `--check` fails if
+there are more lines than MOST_LINES, or if docs/internals/design.md names other files; its last line is `N passed, M failed`.
 """
 
 import argparse
@@ -162,7 +162,7 @@ def files_on_the_map():
 
 def main():
     parser = argparse.ArgumentParser(description=__doc__.splitlines()[0])
-    parser.add_argument("--check", action="store_true", help="fail where there are more lines than there may be")
+    parser.add_argument("--check", action="store_true", help="fail if there are more lines than allowed")
     parser.add_argument("--names", action="store_true", help="print each definition")
     options = parser.parse_args()
 

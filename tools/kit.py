@@ -49,7 +49,7 @@ def link(source, target):
 
 
 def copy_proofs(source, target):
-    """Copies what checks proved, without the help that a check writes anew each time."""
+    """Copies what checks proved, without the help that each check writes again."""
     shutil.copytree(source, target, dirs_exist_ok=True, ignore=shutil.ignore_patterns(HELP))
 
 

@@ -33,7 +33,7 @@ public:
     virtual size_t run(size_t from, size_t upto) = 0;
     // The same answers as text: a line `id score` for each and `ok number` after those of a query.
     virtual void reply(size_t from, size_t upto, std::string &out) = 0;
-    // The same index for another thread, or null where the library has no such thing.
+    // The same index for another thread, or null if the library has no such thing.
     virtual std::unique_ptr<Index> shared() = 0;
 };
 

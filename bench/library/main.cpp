@@ -23,9 +23,9 @@
 #include <time.h>
 
 constexpr double ALL_SECONDS = 120;     // of all passes; the last one may take longer
-constexpr int ROUNDS = 6;               // of a pass; where they are slow, one in every third pass
+constexpr int ROUNDS = 6;               // of a pass; if they are slow, one in every third pass
 constexpr size_t PART = 1000;           // queries that are timed at once
-constexpr double PART_SECONDS = 0.01;   // of a part, which has fewer queries where they are slow
+constexpr double PART_SECONDS = 0.01;   // of a part, which has fewer queries if they are slow
 constexpr double ROUND_SECONDS = 0.1;   // what is longer is slow
 constexpr size_t THREADS[] = {1, 2, 4};
 constexpr size_t PARTS = 10, TURNS = 5 * PARTS;  // of threads
@@ -106,7 +106,7 @@ struct Opening {
     }
 };
 
-// How many queries are timed at once: so many, or a half of them, and so on, where they are slow.
+// How many queries are timed at once: this many, or a half of them, and so on, if they are slow.
 static size_t part_of(Index &index, size_t count) {
     size_t few = std::min<size_t>(count, 20);
     double begun = used();

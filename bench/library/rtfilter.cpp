@@ -24,7 +24,7 @@ public:
     rtfilter_session *at() { return &session; }
 };
 
-// Queries in numbers, so many in a call.
+// Queries in numbers, many in a call.
 template <size_t EACH> class Numbers : public Index {
     static constexpr size_t CAPACITY = 4096 + 256 * EACH;  // answers of a call
 
@@ -117,7 +117,7 @@ private:
     }
 };
 
-// Query lines, so many in a call.
+// Query lines, many in a call.
 template <size_t EACH> class Lines : public Index {
     Session session;
     std::string text;

@@ -11,7 +11,7 @@ class Geos {
 
     const Table &table;
     mutable geos::index::strtree::TemplateSTRtree<uint32_t> tree;
-    int64_t reach;  // half the side of a square of about ten boxes, where they are spread evenly
+    int64_t reach;  // half the side of a square of about ten boxes, if they are uniform
 
     static Envelope envelope(const Box &b) {
         return Envelope(static_cast<double>(b.min_x), static_cast<double>(b.max_x),

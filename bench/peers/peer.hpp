@@ -294,7 +294,7 @@ public:
     }
     size_t found(const Query &q) { return q.counts ? count(q) : q.order == Query::ById ? by_id(q) : by_score(q); }
 
-    // Finds the answers, prints them, and tells how many there are.
+    // Finds the answers, prints them, and returns their number.
     size_t print_found(std::string &out, const Query &q) {
         size_t many = found(q);
         if (q.counts) return many;
@@ -305,7 +305,7 @@ public:
     }
 };
 
-// What a line is told.
+// The reply to a line.
 template <class Index> class Answers {
     Finder<Index> finder;
     int64_t number = 0;

@@ -35,7 +35,7 @@ const (
 	Repeated    FaultKind = C.RTFILTER_REPEATED      // an earlier record has the same id
 )
 
-// A Fault is the first fault of a table. Records and fields are counted from 1, a header included; Field is 0 where none is named.
+// A Fault is the first fault of a table. Records and fields are counted from 1, a header included; Field is 0 if none is named.
 type Fault struct {
 	Kind   FaultKind
 	Record uint32

@@ -58,9 +58,9 @@ const (
 type Session struct {
 	_       noCopy
 	session C.rtfilter_session
-	place   uintptr // where this session was opened: a copy is somewhere else
+	place   uintptr // the address at which this session was opened: a copy has another
 	inUse   int32
-	buffer  []int64 // where Find has answers stored before it knows how many there are
+	buffer  []int64 // the answers of Find, before it knows how many there are
 }
 
 // What `go vet` doesn't let be copied.
@@ -235,7 +235,7 @@ func (it *Session) FindEach(queries []Query, vertices []Point) (Answers, error) 
 	return all, nil
 }
 
-// Puts the answers of queries behind each other, and where those of each end.
+// Appends the answers of queries, and the end of those of each.
 func (it *Session) put(queries []Query, vertices []Point, all *Answers, hasScores bool) error {
 	capacity := cap(all.IDs)
 	if least := capacityOfQuery * len(queries); capacity < least || capacity < firstCapacity {
@@ -278,7 +278,7 @@ func (it *Session) put(queries []Query, vertices []Point, all *Answers, hasScore
 	}
 }
 
-// A slice with so many items more.
+// A slice with this many more items.
 func grown[Item any](slice []Item, more int) []Item {
 	if cap(slice)-len(slice) >= more {
 		return slice[:len(slice)+more]
@@ -345,7 +345,7 @@ func (it *Session) measured(call C.int, queries []Query, vertices []Point) ([]ui
 	return measured, nil
 }
 
-// The error of a code of a call about queries, of which so many are done.
+// The error for a code of a call about queries, of which `done` are done.
 func failed(code C.int, queries []Query, vertices []Point, done int) error {
 	if code != C.RTFILTER_BAD_QUERY {
 		return failure(code)
@@ -355,7 +355,7 @@ func failed(code C.int, queries []Query, vertices []Point, done int) error {
 	return &Error{Code: BadQuery, Query: done, Why: C.GoString(text)}
 }
 
-// Where a slice's items are, or nil where there are none.
+// The address of a slice's items, or nil if there are none.
 func at[Item any](slice []Item) unsafe.Pointer {
 	if len(slice) == 0 {
 		return nil

@@ -232,7 +232,7 @@ func kilobytes(t *testing.T) int {
 	return 4 * resident
 }
 
-// A session is freed by Close, and where that is forgotten once nothing refers to it. Twenty tables that are freed take less
+// A session is freed by Close, or, if that is forgotten, once nothing refers to it. Twenty tables that are freed take less
 // memory than ten that are there: the C library keeps some for later.
 func TestFreed(t *testing.T) {
 	n := 100_000

@@ -1,4 +1,4 @@
-"""The gate installs what the tests want where it may, and names what it lacks, with programs that stand for the system's."""
+"""The gate installs what the tests need if it may, and names what is missing; programs of the tests stand for the system's."""
 
 import os
 import shutil
@@ -53,7 +53,7 @@ class Gate(unittest.TestCase):
         return done.returncode, done.stdout.splitlines(), self.calls.read_text().splitlines()
 
     def test_what_is_installed(self) -> None:
-        """What isn't there, in one step, and nothing where all is."""
+        """What isn't there, in one step; nothing if all is."""
         self.assertEqual(self.run_script("tests/packages"), (0, [], []))
         status, output, calls = self.run_script("tests/packages", lacking="chromium mypy")
         self.assertEqual((status, output), (0, []))

@@ -46,7 +46,7 @@ static void open_many(rtfilter_session *out)
     EXPECT(rtfilter_open_arrays(out, BOXES_LEN, ids, min_x, max_x, min_y, max_y, layers, NULL, NULL) == RTFILTER_OK);
 }
 
-/* Finds the answers to a query into so many places. */
+/* Finds the answers to a query, with an array of this length. */
 static void find(rtfilter_session *session, const rtfilter_queries *queries, size_t places)
 {
     size_t end;
@@ -93,7 +93,7 @@ static void try_queries(rtfilter_session *session)
                 }
 }
 
-/* A reply takes memory where none before it was as long, and a later one of that length doesn't. */
+/* A reply longer than all before it allocates; a later one of that length doesn't. */
 static void ask(rtfilter_session *session)
 {
     static const char lines[] = "find all\ncount all\nnearest 9 1 1\n";

@@ -287,7 +287,7 @@ static void tables_in_files(void)
     EXPECT(rtfilter_open_file(&session, path("bad.csv"), NULL, &fault) == RTFILTER_BAD_TABLE);
     EXPECT(fault.kind == RTFILTER_FIELD_COUNT && fault.record == 1 && fault.field == 2);
 
-    /* A pipe, which tells no length, and of which much comes. */
+    /* A pipe, which has no length, and from which much comes. */
     int ends[2];
     EXPECT(pipe(ends) == 0);
     const pid_t child = fork();
@@ -441,7 +441,7 @@ static void pieces(rtfilter_session *session)
         EXPECT(taken == LEN(whole) && first == 3 && rest.len == 0);
     }
 
-    /* The same where the first call leaves some out. */
+    /* The same if the first call leaves some out. */
     for (size_t left_out = 0; left_out <= LEN(whole) + 1; left_out++)
         for (size_t capacity = 1; capacity <= LEN(whole) + 1; capacity++) {
             int64_t ids[LEN(whole) + 1];

@@ -8,7 +8,7 @@
 #include <stdlib.h>
 #include <string.h>
 
-/* Ends the test where something isn't as expected. */
+/* Ends the test if something isn't as expected. */
 #define EXPECT(it) ((it) ? (void)0 : (fprintf(stderr, "%s, line %d: not %s\n", __FILE__, __LINE__, #it), exit(1)))
 
 /* Five boxes, on layers 3, 0, 3, 0 and 63. */

@@ -1,4 +1,4 @@
-"""The recipes of docs/recipes.md and docs/quick-start.md print what they show, each where its tools are installed."""
+"""The recipes of docs/recipes.md and docs/quick-start.md print what they show, each if its tools are installed."""
 
 import os
 import re
@@ -45,7 +45,7 @@ class Recipes(unittest.TestCase):
             self.assertEqual(pages.printed(command, folder, path), shown, command)
 
     def test_that_blocks_are_found(self) -> None:
-        commands = PAGES[0].read_text(encoding="utf-8").count("\n$ ") + 5  # of the quick start, where others name no tools
+        commands = PAGES[0].read_text(encoding="utf-8").count("\n$ ") + 5  # of the quick start, whose other commands name no tools
         self.assertEqual(sum(len(examples) for _, examples in sections().values()), commands)
         self.assertGreater(commands, 30)
 

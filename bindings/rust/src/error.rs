@@ -57,7 +57,7 @@ impl Fault {
         self.0.record
     }
 
-    /// See [`FaultKind`]; 0 where no field is named. Fields are counted from 1: id, min_x, max_x, min_y, max_y, layer.
+    /// See [`FaultKind`]; 0 if no field is named. Fields are counted from 1: id, min_x, max_x, min_y, max_y, layer.
     pub fn field(&self) -> u64 {
         self.0.field
     }

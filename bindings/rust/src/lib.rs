@@ -210,7 +210,7 @@ impl Session {
         found
     }
 
-    /// Puts the answers of queries into empty vectors, and where those of each end.
+    /// Puts the answers of queries into empty vectors, and the end of those of each.
     fn put(
         &mut self, queries: &[Query], vertices: &[Point], ids: &mut Vec<i64>, mut scores: Option<&mut Vec<u128>>,
         ends: &mut [usize],
@@ -319,7 +319,7 @@ fn list(queries: &[Query], vertices: &[Point]) -> ffi::Queries {
     ffi::Queries { queries: queries.as_ptr(), len: queries.len(), vertices: vertices.as_ptr(), vertex_len: vertices.len() }
 }
 
-/// The error of a code of a call about queries, of which so many are done.
+/// The error for a code of a call about queries, of which `done` are done.
 fn check_queries(code: c_int, queries: &[Query], vertices: &[Point], done: usize) -> Result<(), Error> {
     if code != ffi::BAD_QUERY {
         return check(code);

@@ -173,7 +173,7 @@ impl Query {
         Query { layers, ..self }
     }
 
-    /// The same, with at most so many answers.
+    /// The same query with a limit on the number of answers.
     pub fn first(self, limit: u64) -> Query {
         Query { limit, ..self }
     }

@@ -27,12 +27,12 @@ impl Settings {
         Settings { header, ..self }
     }
 
-    /// The same with at most so many children of a node of the tree, 2 to 64.
+    /// The same with another fanout, the most children of a node of the tree: 2 to 64.
     pub fn fanout(self, fanout: u8) -> Settings {
         Settings { fanout, ..self }
     }
 
-    /// The same with at most so many boxes, 1 to 16777216.
+    /// The same with another maximum number of boxes: 1 to 16777216.
     pub fn max_entries(self, max_entries: u32) -> Settings {
         Settings { max_entries, ..self }
     }
@@ -67,7 +67,7 @@ pub struct Info {
     pub boxes: u32,
     /// How many boxes or nodes each level of the tree has, from that of the boxes up.
     pub level_sizes: Vec<u32>,
-    /// The least box around all boxes, where there are any.
+    /// The smallest box around all boxes, if there are any.
     pub bounds: Option<Bounds>,
 }
 
