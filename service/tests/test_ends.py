@@ -75,8 +75,9 @@ class Ends(Case):
 
     def test_two_signals_at_once(self) -> None:
         """The second is urgent, however soon after the first it comes."""
+        many = table_of(self.folder, "many", 0, 100_000)
         for _ in range(8):
-            service = self.served(table_of(self.folder, "many", 0, 100_000), "--drain", "60")
+            service = self.served(many, "--drain", "60")
             with service.connect() as reads_nothing:
                 reads_nothing.sendall(b"find all\n" * 50)
                 self.assertTrue(reads_nothing.recv(1))
