@@ -369,7 +369,7 @@ class Reloads(unittest.TestCase):
             self.assertEqual(server.end(), (0, f"rtfilter-tiles: --log {folder}/log: lines are lost: No such file or directory\n"))
 
     def test_messages(self) -> None:
-        """What isn't HTTP is a line each, without a traceback, and connections for which there is no descriptor one in a while."""
+        """What isn't HTTP is a line each, without a traceback; a lack of descriptors is one every ten seconds."""
         with Server(self.table, before=["prlimit", "--nofile=24"]) as server:
             for request in (b"<x> y z", b"GET /\x1b[31m HTTP/1.1", b"\0\0\0\0", b"GET / HTTP/1.1\r\nHost: x\r\nContent-Length: -1"):
                 self.assertEqual(server.reply_to(request + b"\r\n\r\n")[0].status, 400)
@@ -380,11 +380,11 @@ class Reloads(unittest.TestCase):
                 connection.close()
             self.assertEqual(server.get("/health")[0].status, 200)
             status, said = server.end()
-        *refused, last = said.splitlines()
-        self.assertEqual((status, len(refused)), (0, 4), said)
-        for line in refused:
+        lines = said.splitlines()
+        self.assertEqual((status, len(lines) in range(5, 9)), (0, True), said)
+        for line in lines[:4]:
             self.assertRegex(line, "^rtfilter-tiles: a request that isn't HTTP: 400, message=")
-        self.assertEqual(last, "rtfilter-tiles: socket.accept() out of system resource: [Errno 24] Too many open files")
+        self.assertEqual({*lines[4:]}, {"rtfilter-tiles: socket.accept() out of system resource: [Errno 24] Too many open files"})
 
     def test_an_address_of_ipv6(self) -> None:
         """Its browser names it in brackets."""
