@@ -357,7 +357,7 @@ class Reloads(unittest.TestCase):
         """Requests are answered, and that is said once in a while: the disk is full, or the folder is gone for some time."""
         with Server(self.table, "--log", "/dev/full") as server:
             self.assertEqual([server.get("/health")[0].status for _ in range(5)], [200] * 5)
-            self.assertEqual(server.end(), (0, "rtfilter-tiles: --log /dev/full: lines are lost: No space left on device\n"))
+            self.assert_said(server, "rtfilter-tiles: --log /dev/full: lines are lost: No space left on device")
         folder, other = self.folder / "logs", self.folder / "moved"
         folder.mkdir()
         with Server(self.table, "--log", str(folder / "log")) as server:
@@ -366,7 +366,12 @@ class Reloads(unittest.TestCase):
             other.replace(folder)
             server.get("/nowhere")
             until(lambda: '"GET /nowhere HTTP/1.1" 404 ' in (folder / "log").read_text())
-            self.assertEqual(server.end(), (0, f"rtfilter-tiles: --log {folder}/log: lines are lost: No such file or directory\n"))
+            self.assert_said(server, f"rtfilter-tiles: --log {folder}/log: lines are lost: No such file or directory")
+
+    def assert_said(self, server: Server, line: str) -> None:
+        """At its end a server has said a line, once or, on a busy machine, now and then."""
+        status, said = server.end()
+        self.assertEqual((status, {*said.splitlines()}), (0, {line}))
 
     def test_messages(self) -> None:
         """What isn't HTTP is a line each, without a traceback; a lack of descriptors is one every ten seconds."""
