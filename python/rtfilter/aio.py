@@ -13,10 +13,10 @@ from collections.abc import Iterable
 from types import TracebackType
 from typing import Any, Self
 
-from .client import PAUSE, Address, Parse, Parsed, is_readable, name_of, named
+from .client import PAUSE, Address, is_readable, name_of, named
 from .errors import Disconnected, TimedOut
 from .regions import All, Layers, Order, Region, count_line, find_line, nearest_line
-from .replies import MARKER, Answers, Reply, answers_of, cut, ended, is_whole, joined, listed, reason, renumbered
+from .replies import Answers, Question, Read, Reply, answers_of, is_whole, line_question, lines_question, reason, text_question
 
 
 class Connection(asyncio.Protocol):
@@ -43,17 +43,17 @@ class Connection(asyncio.Protocol):
         """Whether the service closed it, or said something between two calls: the loop may not know it yet."""
         return self._has_ended or bool(self._received) or is_readable(self._transport.get_extra_info("socket"))
 
-    async def exchange(self, text: bytes, lines: int, name: str) -> bytes:
-        """The replies to a text of so many lines, of which the last one is answered."""
-        self.lines += lines
-        self._transport.write(text)
+    async def exchange(self, question: Question[Read], name: str) -> Read:
+        """What the replies to a question say."""
+        first, self.lines = self.lines + 1, self.lines + question.lines
+        self._transport.write(question.text)
         while not is_whole(self._received, self.lines):
             if self._has_ended:
                 raise Disconnected(f"the service at {name} closed the connection{reason(self._received)}")
             self._news.clear()
             await self._news.wait()
         replies, self._received = bytes(self._received), bytearray()
-        return replies
+        return question.read(replies, first)
 
     def close(self) -> None:
         self._transport.close()
@@ -124,13 +124,11 @@ class Client:
 
     async def text(self, lines: bytes) -> bytes:
         """What the program writes for the bytes of query lines."""
-        text = ended(lines)
-        return await self._exchange(text + MARKER, text.count(b"\n") + 1, renumbered)
+        return await self._exchange(text_question(lines))
 
     async def replies(self, lines: Iterable[str]) -> list[Reply]:
         """The replies to query lines, as `Rtfilter.replies` gives them."""
-        texts = listed(lines)
-        return (await self._exchange(joined(texts) + MARKER, len(texts) + 1, lambda it, first: cut(it, [*texts, ""], first)))[:-1]
+        return await self._exchange(lines_question(lines))
 
     async def close(self) -> None:
         """Closes the connection. Later calls raise ValueError, and one that is under way Disconnected."""
@@ -138,28 +136,27 @@ class Client:
         self._drop()
 
     async def _single(self, line: str) -> Answers:
-        return answers_of((await self._exchange(joined([line]), 1, lambda it, first: cut(it, [line], first)))[0])
+        return answers_of(await self._exchange(line_question(line)))
 
-    async def _exchange(self, text: bytes, lines: int, parse: Parse[Parsed]) -> Parsed:
-        """The replies to a text of so many lines."""
+    async def _exchange(self, question: Question[Read]) -> Read:
+        """What the replies to a question say."""
         if os.getpid() != self._process:
             raise RuntimeError(f"the client belongs to process {self._process}: make another one after a fork")
         try:
             async with asyncio.timeout(self._timeout), self._lock:
                 if self._is_closed:
                     raise ValueError("the client was closed")
-                return await self._answered(text, lines, parse)
+                return await self._answered(question)
         except TimedOut:
             raise
         except TimeoutError:
             raise TimedOut(f"no reply in {self._timeout} seconds") from None
 
-    async def _answered(self, text: bytes, lines: int, parse: Parse[Parsed]) -> Parsed:
+    async def _answered(self, question: Question[Read]) -> Read:
         """The same, by the task that has the lock. What breaks it off leaves no connection, on which replies would still come."""
         try:
             connection = await self._connected()
-            first = connection.lines + 1
-            return parse(await connection.exchange(text, lines, name_of(self._address)), first)
+            return await connection.exchange(question, name_of(self._address))
         except BaseException:
             self._drop()
             raise

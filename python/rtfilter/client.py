@@ -5,23 +5,21 @@ import select
 import socket
 import threading
 import time
-from collections.abc import Callable, Iterable
+from collections.abc import Iterable
 from contextlib import suppress
-from typing import Any, TypeVar, Union
+from typing import Any, Union
 
 from .calls import SingleCalls
 from .errors import Disconnected, TimedOut
 from .regions import All, Layers, Order, Region, count_line, find_line, nearest_line
-from .replies import MARKER, Answers, Reply, answers_of, cut, ended, is_whole, joined, listed, reason, renumbered
+from .replies import Answers, Question, Read, Reply, answers_of, is_whole, line_question, lines_question, reason, text_question
 
 Address = Union[str, "os.PathLike[str]", tuple[str, int]]
 """Where a service listens: the path of a Unix socket, or the host and the port of a TCP socket."""
 
 PIECE = 65_536  # bytes
 PAUSE = 0.002  # seconds between two tries to connect to a service that has many waiting
-LONGEST_WAIT = 2e6  # seconds: what the system takes
-Parsed = TypeVar("Parsed")
-Parse = Callable[[bytes, int], Parsed]  # reads the replies to lines, of which the first has this number
+LONGEST_WAIT = 2e6  # seconds: poll takes milliseconds of 32 bits
 
 
 class Deadline:
@@ -54,10 +52,10 @@ class Connection:
         """Whether the service closed it, as far as is known between two calls."""
         return is_readable(self._socket)
 
-    def exchange(self, text: bytes, lines: int, deadline: Deadline) -> bytes:
-        """The replies to a text of so many lines, of which the last one is answered."""
-        self.lines += lines
-        received, unsent = bytearray(), memoryview(text)
+    def exchange(self, question: Question[Read], deadline: Deadline) -> Read:
+        """What the replies to a question say."""
+        first, self.lines = self.lines + 1, self.lines + question.lines
+        received, unsent = bytearray(), memoryview(question.text)
         poll = select.poll()
         while not is_whole(received, self.lines):
             unsent = unsent[self._sent(unsent) :]
@@ -66,7 +64,7 @@ class Connection:
             for _, events in poll.poll(None if left is None else left * 1000 + 1):
                 if events & ~select.POLLOUT:
                     received += self._received(received)
-        return bytes(received)
+        return question.read(bytes(received), first)
 
     def _sent(self, unsent: memoryview) -> int:
         """How many bytes were sent. All, where the service closed the connection: the next read finds out why."""
@@ -140,13 +138,11 @@ class Client(SingleCalls):
 
     def text(self, lines: bytes) -> bytes:
         """What the program writes for the bytes of query lines."""
-        text = ended(lines)
-        return self._exchange(text + MARKER, text.count(b"\n") + 1, renumbered)
+        return self._exchange(text_question(lines))
 
     def replies(self, lines: Iterable[str]) -> list[Reply]:
         """The replies to query lines, as `Rtfilter.replies` gives them."""
-        texts = listed(lines)
-        return self._exchange(joined(texts) + MARKER, len(texts) + 1, lambda it, first: cut(it, [*texts, ""], first))[:-1]
+        return self._exchange(lines_question(lines))
 
     def close(self) -> None:
         """Closes the connection, at the end of a call that is under way. Later calls raise ValueError."""
@@ -165,10 +161,10 @@ class Client(SingleCalls):
         return [*zip(answers.ids, answers.scores)] if scores else answers.ids
 
     def _single(self, line: str) -> Answers:
-        return answers_of(self._exchange(joined([line]), 1, lambda it, first: cut(it, [line], first))[0])
+        return answers_of(self._exchange(line_question(line)))
 
-    def _exchange(self, text: bytes, lines: int, parse: Parse[Parsed]) -> Parsed:
-        """The replies to a text of so many lines."""
+    def _exchange(self, question: Question[Read]) -> Read:
+        """What the replies to a question say."""
         deadline, caller = Deadline(self._timeout), threading.get_ident()
         self._check()
         left = deadline.left()
@@ -178,7 +174,7 @@ class Client(SingleCalls):
                 raise TimedOut("another call took too long")
             self._caller = caller
             self._check_open()
-            return self._answered(text, lines, parse, deadline)
+            return self._answered(question, deadline)
         finally:
             # (without a call before the lock's own, at which a signal would be handled)
             if self._caller == caller:
@@ -190,18 +186,17 @@ class Client(SingleCalls):
             if self._is_closed:
                 self.close()
 
-    def _answered(self, text: bytes, lines: int, parse: Parse[Parsed], deadline: Deadline) -> Parsed:
+    def _answered(self, question: Question[Read], deadline: Deadline) -> Read:
         """The same, by the thread that has the lock. What breaks it off leaves no connection, on which replies would still come."""
         connection = self._connected(deadline)
         self._connection = None
         try:
-            first = connection.lines + 1
-            replies = parse(connection.exchange(text, lines, deadline), first)
+            found = connection.exchange(question, deadline)
         except BaseException:
             connection.close()
             raise
         self._connection = connection
-        return replies
+        return found
 
     def _check(self) -> None:
         if os.getpid() != self._process:

@@ -2,8 +2,8 @@
 
 import os
 import re
-from collections.abc import Iterable
-from typing import Any, NamedTuple, Union
+from collections.abc import Callable, Iterable
+from typing import Any, Generic, NamedTuple, TypeVar, Union
 
 from .errors import Disconnected, QueryError
 
@@ -62,6 +62,34 @@ def cut(text: bytes, lines: list[str], first: int = 1) -> list[Reply]:
 
 MARKER = b"find all first 0\n"
 """A line that is always answered, by one line: it ends lines of which the last may be skipped."""
+
+
+Read = TypeVar("Read")
+
+
+class Question(NamedTuple, Generic[Read]):
+    """Query lines for a service, of which the last one is answered."""
+
+    text: bytes
+    lines: int
+    read: Callable[[bytes, int], Read]  # what the replies say, of which the first is to the line that has this number
+
+
+def line_question(line: str) -> Question[Reply]:
+    """A line that isn't blank."""
+    return Question(joined([line]), 1, lambda replies, first: cut(replies, [line], first)[0])
+
+
+def lines_question(lines: Iterable[str]) -> Question[list[Reply]]:
+    """Some lines."""
+    texts = listed(lines)
+    return Question(joined(texts) + MARKER, len(texts) + 1, lambda replies, first: cut(replies, [*texts, ""], first)[:-1])
+
+
+def text_question(lines: bytes) -> Question[bytes]:
+    """The bytes of lines, whose replies are numbered from 1."""
+    text = ended(lines)
+    return Question(text + MARKER, text.count(b"\n") + 1, renumbered)
 
 
 def answers_of(reply: Reply) -> Answers:

@@ -28,6 +28,7 @@ FLAGS = ["-std=gnu11", "-O", "-fPIC", "-shared"]
 TRIES = "-include", Path(__file__).with_name("tries.h")
 SYSTEM_PYTHON = "/usr/bin/python3"  # which other users may run too
 MOMENT = re.compile(r"^\d{4}-\d\d-\d\dT\d\d:\d\d:\d\dZ ", re.MULTILINE)  # at which a line was logged
+HTTP = r"^HTTP/1\.0 (\d{3}) [A-Za-z ]+\r\nContent-Type: text/plain; version=0\.0\.4; charset=utf-8\r\nContent-Length: (\d+)\r\n\r\n(.*)$"
 LONG = 20.0  # seconds after which what is waited for doesn't come
 
 
@@ -175,12 +176,17 @@ class Served:
     def ask(self, queries: bytes) -> bytes:
         return talk(self.connect(), [queries])
 
-    def get(self, path: str) -> tuple[int, str]:
+    def reply_to(self, request: bytes) -> tuple[int, str]:
         """What the address of its health answers: a status, and a text."""
-        with socket.create_connection(self.place("health")) as asker:
-            asker.sendall(f"GET {path} HTTP/1.0\r\nHost: here\r\n\r\n".encode())
-            head, _, text = b"".join(iter(lambda: asker.recv(4096), b"")).decode().partition("\r\n\r\n")
-        return int(head.split()[1]), text
+        with socket.create_connection(self.place("health"), LONG) as asker:
+            asker.sendall(request)
+            reply = b"".join(iter(lambda: asker.recv(4096), b"")).decode()
+        status, length, text = found(HTTP, reply, re.DOTALL).groups()
+        assert len(text) == int(length), reply
+        return int(status), text
+
+    def get(self, path: str) -> tuple[int, str]:
+        return self.reply_to(f"GET {path} HTTP/1.0\r\nHost: here\r\n\r\n".encode())
 
     def metric(self, name: str) -> float:
         return float(found(rf"^{re.escape(name)} (\S+)$", self.get("/metrics")[1], re.MULTILINE)[1])

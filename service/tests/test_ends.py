@@ -1,5 +1,6 @@
 """Ends of processes, and what is left then."""
 
+import contextlib
 import fcntl
 import itertools
 import os
@@ -14,7 +15,7 @@ from pathlib import Path
 from typing import Any
 
 from served import (
-    BOXES, PROGRAM, TRIES, Case, answers, is_there, put_library, read_lines, send, stop, table_of, until,
+    BOXES, PROGRAM, TRIES, Case, all_of, answers, is_there, put_library, read_lines, send, stop, table_of, until,
 )  # fmt: skip
 
 
@@ -203,47 +204,31 @@ class Ends(Case):
         """Of connections and programs, while others ask, connect and exchange: what is answered is right, and none of the
         three slots is lost."""
         service = self.served(BOXES, "--connections", "3", "--health", "0")
-        is_over, faults = threading.Event(), []
+        expected = b"".join(b"ok %d 5\n" % at for at in range(1, 21))
+        is_over, faults = threading.Event(), list[bytes]()
 
         def ask() -> None:
             while not is_over.is_set():
-                with service.connect() as asker:
-                    try:
-                        asker.sendall(b"count all\n" * 20)
-                        found = read_lines(asker, 20)
-                    except (ConnectionResetError, BrokenPipeError):
-                        continue
-                if found.startswith(b"rtfilter-serve: refused"):
-                    continue
-                if not b"".join(b"ok %d 5\n" % at for at in range(1, 21)).startswith(found):
-                    faults.append(found)
+                with service.connect() as asker, contextlib.suppress(ConnectionError):
+                    asker.sendall(b"count all\n" * 20)
+                    found = read_lines(asker, 20)
+                    if not found.startswith(b"rtfilter-serve: refused") and not expected.startswith(found):
+                        faults.append(found)
 
-        threads = [threading.Thread(target=ask) for _ in range(3)]
-        for thread in threads:
-            thread.start()
-        try:
-            for at in range(60):
-                time.sleep(0.01)
-                if at % 5 == 1:
-                    service.signal(signal.SIGHUP)
-                victims = service.programs if at % 6 == 0 else service.connections
-                for victim in victims[:1]:
-                    try:
-                        os.kill(victim, signal.SIGKILL)
-                    except ProcessLookupError:
-                        pass
-        finally:
-            is_over.set()
-            for thread in threads:
-                thread.join()
+        with all_of(threading.Thread(target=ask) for _ in range(3)):
+            try:
+                for at in range(60):
+                    time.sleep(0.01)
+                    if at % 5 == 1:
+                        service.signal(signal.SIGHUP)
+                    send(signal.SIGKILL, (service.connections if at % 6 else service.programs)[:1])
+            finally:
+                is_over.set()
         self.assertEqual(faults, [])
         until(lambda: service.get("/health")[0] == 200 and not service.metric("rtfilter_connections"), "an end to all that")
         until(lambda: len(service.programs) == 1, "one program")
-        askers = [service.connect() for _ in range(3)]
-        for asker in askers:
-            self.count(asker)
-        for asker in askers:
-            asker.close()
+        with service.connect() as one, service.connect() as two, service.connect() as three:
+            self.count(one, two, three)
 
     def test_a_program_that_ends_again_and_again(self) -> None:
         """The pause before it is started anew grows; a signal ends it."""

@@ -265,9 +265,7 @@ class Exchanges(Case):
         with all_of(threading.Thread(target=storm) for _ in range(2)):
             try:
                 for at in range(10):
-                    for victim in service.programs[:1]:
-                        with contextlib.suppress(ProcessLookupError):  # it has just ended by itself
-                            os.kill(victim, signal.SIGKILL)
+                    send(signal.SIGKILL, service.programs[:1])
                     until(lambda: self.is_answered(service), "an answer")
                 service.signal(signal.SIGTERM)
                 until(lambda: service.process.poll() is not None, "the end of the service")

@@ -11,31 +11,13 @@ import sys
 import time
 from pathlib import Path
 
-from served import BOXES, MOMENT, PROGRAM, SERVICE, Case, Served, put_library, read_lines, stop, table_of, until
+from served import BOXES, MOMENT, PROGRAM, SERVICE, Case, put_library, read_lines, stop, table_of, until
 
-HEAD = re.compile(
-    rb"HTTP/1\.0 (\d{3}) [A-Za-z ]+\r\nContent-Type: text/plain; version=0\.0\.4; charset=utf-8\r\n"
-    rb"Content-Length: (\d+)\r\n\r\n"
-)
 SAMPLE = r'^rtfilter_[a-z_]+(\{(status|signal)="\d+"\})? \d+(\.\d+)?$'
-
-
 HEALTH = b"GET /health HTTP/1.0\r\n"
 
-class Health(Case):
-    def response(self, service: Served, text: bytes) -> tuple[int, bytes]:
-        """The status and the text of what is answered to these bytes."""
-        with socket.create_connection(service.place("health")) as asker:
-            asker.settimeout(20)
-            asker.sendall(text)
-            found = b"".join(iter(lambda: asker.recv(4096), b""))
-        head = HEAD.match(found)
-        assert head
-        status, length = head.groups()
-        text = found.partition(b"\r\n\r\n")[2]
-        self.assertEqual(len(text), int(length))
-        return int(status), text
 
+class Health(Case):
     def test_metrics(self) -> None:
         service = self.served(BOXES, "--health", "0", "--connections", "2")
         service.ask(b"count all\n")
@@ -189,7 +171,7 @@ class Health(Case):
             (b"GET / HTTP/1.0\r\n\r\n", 404), (b"GET /healthy HTTP/1.0\r\n\r\n", 404),
             (b"POST /health HTTP/1.0\r\n\r\n", 404), (b"\r\n\r\n", 404), (b"\0\xff\n\n", 404), (b"GET\r\n\r\n", 404),
         ):
-            self.assertEqual(self.response(service, request)[0], status, request)
+            self.assertEqual(service.reply_to(request)[0], status, request)
 
     def test_slow_and_silly_ones(self) -> None:
         """A client that says nothing, too much, or reads nothing keeps no other waiting, and is dropped after some seconds."""

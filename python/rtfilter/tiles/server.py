@@ -25,6 +25,7 @@ TILE = re.compile(r"/(0|[1-9][0-9]?)/(0|[1-9][0-9]{0,6})/(0|[1-9][0-9]{0,6})\.pb
 NUMBER = re.compile(r"-?[0-9]{1,10}")
 LINE = re.compile(r"[^\n\ud800-\udfff]*")
 LAYERS = re.compile(r"[0-9]{1,2}(,[0-9]{1,2}){0,63}")
+TAG = re.compile(r'"([^"]*)"')
 GZIP = re.compile(r"(^|[\s,])gzip\s*(?!\s*;\s*q=0(\.0*)?\s*(,|$))(;|,|$)", re.IGNORECASE)
 HEADERS = {
     "Server": "rtfilter-tiles",
@@ -128,13 +129,12 @@ class Server:
 
     def _kept(self, request: web.Request, kind: str, body_of: Callable[[], bytes], max_age: int = 0) -> web.Response:
         """A reply that another table alone would change. It isn't made again for a client that has it."""
-        tag = ETag(self.served.tag, is_weak=True)  # the same for what is packed
-        known = {it.value for it in request.if_none_match or ()}
-        if {"*", tag.value} & known:
+        known = ", ".join(request.headers.getall("If-None-Match", []))
+        if known.strip() == "*" or self.served.tag in TAG.findall(known):
             response = web.Response(status=304)
         else:
             response = reply(request, kind, body_of())
-        response.etag = tag
+        response.etag = ETag(self.served.tag, is_weak=True)  # the same for what is packed
         response.headers["Cache-Control"] = f"public, max-age={max_age}" if max_age else "no-cache"
         return response
 

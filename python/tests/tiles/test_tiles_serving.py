@@ -141,7 +141,7 @@ class Caches(Serving):
                     again, nothing = self.response(target, Accept_Encoding=encoding, If_None_Match=known)
                     self.assertEqual((again.status, nothing, again.headers["ETag"]), (304, b"", f"W/{tag}"), known)
                     self.assertEqual(again.headers["Cache-Control"], reply.headers["Cache-Control"])
-                for other in ('"x"', tag.replace('"', ""), tag[:-1], ""):
+                for other in ('"x"', tag.replace('"', ""), tag[:-1], "", '"*"', '"x", *'):
                     again, body_again = self.response(target, Accept_Encoding=encoding, If_None_Match=other)
                     self.assertEqual((again.status, body_again), (reply.status, body), other)
         for target in ("/view?x1=0&x2=9&y1=0&y2=9", "/ask?q=count+all", "/health", "/nothing"):
@@ -149,6 +149,8 @@ class Caches(Serving):
             self.assertIsNone(reply.headers["ETag"])
             self.assertEqual(reply.headers["Cache-Control"], "no-cache")
         self.assertEqual(self.response("/5/99/0.pbf", If_None_Match="*")[0].status, 404)
+        lines = f'GET / HTTP/1.1\r\nHost: localhost\r\nIf-None-Match: "x"\r\nIf-None-Match: {tag}\r\n\r\n'
+        self.assertEqual(self.server.reply_to(lines.encode())[0].status, 304)
 
     def test_another_table_has_another_tag(self) -> None:
         folder = Path(self.enterContext(tempfile.TemporaryDirectory()))
