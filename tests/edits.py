@@ -72,9 +72,26 @@ pub fn twice(number: u8) -> Pair
     let (first, second) = (number, number);
     Pair { first, second }
 }
+
+/// Four more.
+pub fn four_more(number: u8) -> u16
+    ensures more { result ≡ number + 4 }
+{
+    let half = two_more(number);
+    half + 2
+}
 """
-# The edits: the old line, the new one, and what each comes to: whether it is refused in a check of several.
-REFUSED, ALONE, FAILS = "refused at", "refused alone at", "FAIL"
+# A check reads these also if what the function calls isn't proved.
+ANSWERS = f"""\
+use Rattle.std.proofs.Common.{{rules}}
+use Rattle.{NAME}.proofs.four_more.Goals as goal
+
+pub returns : goal.returns
+returns c = search rules
+"""
+# The edits: the old line, the new one, and what each comes to. Some have to be refused in a check of several edits, others alone;
+# most may be either, since an edit that isn't compiled leaves those beside it open.
+REFUSED, TOGETHER, ALONE, FAILS = "refused (?:alone )?at", "refused at", "refused alone at", "FAIL"
 EDITS = {
     "one_more_is_two_more": ("    u16::from(number) + 1", "    u16::from(number) + 2", REFUSED),
     "one_more_the_other_way": ("    u16::from(number) + 1", "    1 + u16::from(number)", FAILS),
@@ -85,7 +102,9 @@ EDITS = {
     "same_without_an_effect": ("    found", "    found + 0", FAILS),
     "same_not_compiled": ("    let found = number;", "    let found = another;", FAILS),
     "same_not_there": ("    let gone = number;", "    let gone = 0;", FAILS),
-    "twice_is_once": ("    let (first, second) = (number, number);", "    let (first, second) = (number, 0);", REFUSED),
+    "four_more_is_five_more": ("    half + 2", "    half + 3", TOGETHER),
+    "four_more_the_other_way": ("    half + 2", "    2 + half", FAILS),
+    "twice_is_once": ("    let (first, second) = (number, number);", "    let (first, second) = (number, 0);", TOGETHER),
 }  # fmt: skip
 # Wrong runners: what is planted, the text that is changed, what it becomes, and edits that show it.
 PLANTS = [
@@ -99,7 +118,7 @@ PLANTS = [
         "a function that waits for another is refused",
         'if not said.startswith("not proved"):\n        return None\n',
         'if not said.startswith("not proved"):\n        return None if said == "proved" else "any"\n',
-        ["one_more_is_two_more", "two_more_the_other_way"],
+        ["one_more_is_two_more", "two_more_the_other_way", "four_more_is_five_more"],
     ),
     (
         "the verdict of another function is taken",
@@ -142,6 +161,8 @@ def make_crate(folder):
     (folder / f"crates/{NAME}/src").mkdir(parents=True)
     (folder / f"crates/{NAME}/edits").mkdir()
     (folder / f"crates/{NAME}/src/lib.rt").write_text(SOURCE)
+    (folder / f"crates/{NAME}/proofs/four_more").mkdir(parents=True)
+    (folder / f"crates/{NAME}/proofs/four_more/Answers.antt").write_text(ANSWERS)
     (folder / "crates.txt").write_text(f"{NAME}:\n")
     (folder / "HANDLES").write_text("Handles allowed: none.\n")
     (folder / ".git").mkdir()

@@ -42,7 +42,7 @@ typedef struct {
 } Table;
 
 /* Raises an exception that was made, if it could be made. */
-static PyObject *raise(PyObject *class, PyObject *error)
+static PyObject *raise_made(PyObject *class, PyObject *error)
 {
     if (error)
         PyErr_SetObject(class, error);
@@ -178,8 +178,8 @@ static PyObject *whole(PyObject *number, PyObject *of)
 
 static PyObject *raise_fault(const rtfilter_fault *fault)
 {
-    return raise(table_error, PyObject_CallFunction(table_error, "IIK", (unsigned)fault->kind, (unsigned)fault->record,
-                                                    (unsigned long long)fault->field));
+    return raise_made(table_error, PyObject_CallFunction(table_error, "IIK", (unsigned)fault->kind, (unsigned)fault->record,
+                                                         (unsigned long long)fault->field));
 }
 
 static PyObject *opened(Table *self, int code, const rtfilter_fault *fault)
@@ -309,7 +309,7 @@ static struct kind {
 static PyObject *raise_query(PyObject *part, Py_ssize_t at, const char *code, const char *text)
 {
     PyObject *place = at < 0 ? Py_NewRef(Py_None) : PyLong_FromSsize_t(at);
-    return place ? raise(query_error, PyObject_CallFunction(query_error, "ONss", part ? part : Py_None, place, code, text)) : NULL;
+    return place ? raise_made(query_error, PyObject_CallFunction(query_error, "ONss", part ? part : Py_None, place, code, text)) : NULL;
 }
 
 static bool put_number(const request *it, PyObject *number, PyObject *of, void *field, bool is_unsigned)

@@ -80,9 +80,12 @@ def _array(rows: Any, what: str) -> NDArray[Any]:
 
 
 def _read(value: Any, what: str) -> NDArray[Any]:
-    """What numpy makes of a value."""
+    """What numpy makes of a value. Rows may have masks of their own, which it would drop."""
+    make: Any = numpy.asanyarray
+    if isinstance(value, (list, tuple)) and any(isinstance(it, numpy.ma.MaskedArray) for it in value):
+        make = numpy.ma.array
     try:
-        return numpy.asanyarray(value)
+        return numpy.asanyarray(make(value))
     except ValueError:
         raise TypeError(f"{what}: rows of different lengths") from None
 

@@ -19,7 +19,7 @@ Address = Union[str, "os.PathLike[str]", tuple[str, int]]
 
 PIECE = 65_536  # bytes
 PAUSE = 0.002  # seconds between two tries to connect to a service that has many waiting
-LONGEST_WAIT = 2e6  # seconds: what the system takes
+LONGEST_WAIT = 2e6  # seconds: poll takes milliseconds of 32 bits
 
 
 class Deadline:

@@ -20,7 +20,7 @@ class Index:
 
     def __init__(self, stream: Iterable[Sequence[Any]] = (), interleaved: bool = True) -> None:
         self.interleaved = interleaved
-        items = [(index(item[0]), self._sides(item[1])) for item in stream]
+        items = [(index(id), self._sides(coordinates)) for id, coordinates, *_ in stream]
         items.sort(key=itemgetter(0))
         self._ids = ids_of(numpy.array([id for id, _ in items], object), "ids")
         if (self._ids[1:] == self._ids[:-1]).any():

@@ -136,6 +136,7 @@ def test_invalid_queries(boxes: Rtfilter, region: Any, code: str, text: str) -> 
         (lambda it: it.find(All(), on="3"), TypeError, "layers are whole numbers, and not '3'"),
         (lambda it: it.find(All(), on=1.0), TypeError, "1.0 isn't a whole number"),
         (lambda it: it.find_each(numpy.zeros((1, 4))), TypeError, "windows: numbers are float64, and not whole"),
+        (lambda it: it.find_each([numpy.ma.array((0, 1, 0, 1), mask=(0, 0, 0, 1))]), TypeError, "windows: a number is masked"),
         (lambda it: it.find_each([(0, 1, 0)]), TypeError, "windows: the shape is (1, 3), and not (n, 4)"),
         (lambda it: it.find_each([(0, 1, 0, 1), (0, 1)]), TypeError, "windows: rows of different lengths"),
         (lambda it: it.find_each(), TypeError, "give either windows or bounds="),

@@ -193,9 +193,9 @@ def test_a_service_that_takes_no_connections(connect: Connect, full: Any, monkey
     real = socket.getaddrinfo
     monkeypatch.setattr(socket, "getaddrinfo", lambda *given, **named: real(*given, **named) * 3)
     begun = time.monotonic()
-    with pytest.raises(TimedOut, match="0.3 seconds|in time"), connect(full, timeout=0.3) as client:
+    with pytest.raises(TimedOut, match="0.8 seconds|in time"), connect(full, timeout=0.8) as client:
         client.count(All())
-    assert 0.2 < time.monotonic() - begun < 0.8
+    assert 0.7 < time.monotonic() - begun < 2.2
 
 
 def test_a_host_with_several_addresses(connect: Connect, monkeypatch: pytest.MonkeyPatch, data: Path, serve: Serve) -> None:
@@ -429,7 +429,7 @@ def test_asyncio_calls_that_are_cancelled_anywhere(serve: Serve, data: Path) -> 
             assert await client.size() == 5
         return cancelled
 
-    assert asyncio.run(ask(serve(data / "boxes.csv", "--connections", "9000").path)) > 100
+    assert asyncio.run(ask(serve(data / "boxes.csv", "--connections", "9000").path)) > 20
 
 
 def test_a_close_while_asyncio_connects(fake: Fake, monkeypatch: pytest.MonkeyPatch) -> None:

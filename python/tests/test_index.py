@@ -91,6 +91,7 @@ def test_as_rtree() -> None:
         (lambda: Index([(1, (0, 0, math.inf, 1))]), ValueError),
         (lambda: Index([(1, (0, 0, 1))]), TypeError),
         (lambda: Index([(1, 5)]), TypeError),
+        (lambda: Index([(1,)]), ValueError),
         (lambda: Index([(1.5, (0, 0, 1, 1))]), TypeError),
         (lambda: Index([(2**63, (0, 0, 1, 1))]), ValueError),
         (lambda: Index([(1, ("0", "0", "1", "1"))]), TypeError),
