@@ -23,7 +23,7 @@ from typing import Any
 from aiohttp.test_utils import TestClient, TestServer
 from chromium import Chromium
 from support import LONGEST, ROOT, environment, found, until, wants
-from tiles_support import BOXES, COMMAND, Mapped, Server, make_map
+from tiles_support import BOXES, COMMAND, Mapped, Server, large_map
 
 from rtfilter.tiles import server as serving
 from rtfilter.tiles.mercator import HALF, window_of
@@ -475,8 +475,7 @@ class Many(Serving):
 class Cost(unittest.TestCase):
     def test_a_tile(self) -> None:
         """Processor time of the server, compression and all."""
-        folder = Path(self.enterContext(tempfile.TemporaryDirectory()))
-        make_map(folder, 100_000)
+        folder = large_map()
         with Server(folder / "boxes.csv", "--names", str(folder / "names.csv")) as server:
             connection = server.connected()
             self.addCleanup(connection.close)
