@@ -89,8 +89,9 @@ use Rattle.{NAME}.proofs.four_more.Goals as goal
 pub returns : goal.returns
 returns c = search rules
 """
-# The edits: the old line, the new one, and what each comes to: whether it is refused in a check of several.
-REFUSED, ALONE, FAILS = "refused at", "refused alone at", "FAIL"
+# The edits: the old line, the new one, and what each comes to. Some have to be refused in a check of several edits, others alone;
+# most may be either, since an edit that isn't compiled leaves those beside it open.
+REFUSED, TOGETHER, ALONE, FAILS = "refused (?:alone )?at", "refused at", "refused alone at", "FAIL"
 EDITS = {
     "one_more_is_two_more": ("    u16::from(number) + 1", "    u16::from(number) + 2", REFUSED),
     "one_more_the_other_way": ("    u16::from(number) + 1", "    1 + u16::from(number)", FAILS),
@@ -101,9 +102,9 @@ EDITS = {
     "same_without_an_effect": ("    found", "    found + 0", FAILS),
     "same_not_compiled": ("    let found = number;", "    let found = another;", FAILS),
     "same_not_there": ("    let gone = number;", "    let gone = 0;", FAILS),
-    "four_more_is_five_more": ("    half + 2", "    half + 3", REFUSED),
+    "four_more_is_five_more": ("    half + 2", "    half + 3", TOGETHER),
     "four_more_the_other_way": ("    half + 2", "    2 + half", FAILS),
-    "twice_is_once": ("    let (first, second) = (number, number);", "    let (first, second) = (number, 0);", REFUSED),
+    "twice_is_once": ("    let (first, second) = (number, number);", "    let (first, second) = (number, 0);", TOGETHER),
 }  # fmt: skip
 # Wrong runners: what is planted, the text that is changed, what it becomes, and edits that show it.
 PLANTS = [

@@ -82,7 +82,7 @@ def _array(rows: Any, what: str) -> NDArray[Any]:
 def _read(value: Any, what: str) -> NDArray[Any]:
     """What numpy makes of a value. Rows may have masks of their own, which it would drop."""
     make: Any = numpy.asanyarray
-    if isinstance(value, (list, tuple)) and any(isinstance(it, numpy.ma.MaskedArray) for it in value):
+    if isinstance(value, (list, tuple)) and numpy.ma.MaskedArray in map(type, value):
         make = numpy.ma.array
     try:
         return numpy.asanyarray(make(value))

@@ -223,6 +223,7 @@ def sjoin(left: Any, right: Any, how: str = "inner", predicate: str = "intersect
 def _joined(kept: Any, other: Any, places: Places, others: Places, has_all: bool, names: tuple[str, str]) -> tuple[Any, Any]:
     """The rows of one frame at these places, and beside them those of the other one, whose geometries are dropped. With all, rows
     of the first without a match are there too, in their places."""
+    import geopandas
     import pandas
 
     if has_all:
@@ -231,8 +232,8 @@ def _joined(kept: Any, other: Any, places: Places, others: Places, has_all: bool
         order = numpy.argsort(places, kind="stable")
         places, others = places[order], others[order]
     frame, rest = kept.take(places), other.drop(columns=other.geometry.name)
-    levels = rest.index.nlevels
-    index = f"index_{names[1]}" if levels == 1 else [f"index_{names[1]}{level}" for level in range(levels)]
+    own = rest.index.names if geopandas.__version__ >= "1" else [None] * rest.index.nlevels  # (geopandas 1 keeps names)
+    index = [f"index_{names[1]}{level if len(own) > 1 else ''}" if it is None else it for level, it in enumerate(own)]
     rest = rest.reset_index(names=index).reindex(pandas.RangeIndex(len(rest)))
     rest = rest.reindex(others) if (others < 0).any() else rest.take(others)
     rest.index = frame.index

@@ -252,6 +252,20 @@ def test_joins_are_those_of_geopandas(how: str, predicate: str) -> None:
     assert pairs > 10
 
 
+def test_names_of_indexes(monkeypatch: pytest.MonkeyPatch) -> None:
+    """geopandas 1 keeps those that there are."""
+    monkeypatch.setattr(geopandas, "__version__", "1.0.1")
+    frame = geopandas.GeoDataFrame({"n": [1]}, geometry=[Point(0, 0)])
+    indexes: list[tuple[Any, list[str]]] = [
+        (pandas.Index([3], name="own"), ["own"]),
+        (pandas.Index([3]), ["index_right"]),
+        (pandas.MultiIndex.from_tuples([(1, 2)], names=["p", None]), ["p", "index_right1"]),
+    ]
+    for index, names in indexes:
+        assert [*sjoin(frame, frame.set_index(index))] == ["n_left", "geometry", *names, "n_right"]
+    assert [*sjoin(frame, frame.set_index("n"))] == ["n_left", "geometry", "n_right"]
+
+
 def listed(frame: Any) -> list[str]:
     """The rows of a frame, in any order: pandas has None and NaN for what is missing."""
     rows = zip(frame.index, *(frame.iloc[:, at] for at in range(frame.shape[1])))

@@ -104,9 +104,8 @@ class Control(Case):
 
     def test_a_service_that_ends_without_a_program(self) -> None:
         """It waits for no connection that the last program was given and hadn't begun, whichever of the two ends first."""
-        table = table_of(self.folder, "table", 0, 5)
         for is_program_first in (True, False):
-            table_of(self.folder, "table", 0, 5)
+            table = table_of(self.folder, "table", 0, 5)
             service = self.served(table, "--drain", "60", "--health", "0")
             stop(service.programs)
             self.opened(service, 3)

@@ -116,7 +116,7 @@ class Health(Case):
             self.assertEqual(len(service.log.splitlines()), 3, service.log)
 
     def test_more_clients_than_descriptors(self) -> None:
-        """Those that come at once have them tried again and again, which is logged once, and leave no trace."""
+        """Those that come at once are tried again and again, which is logged every ten seconds, and leave no trace."""
         service = self.served(BOXES, "--health", "0", before=["prlimit", "--nofile=64"])
         with contextlib.ExitStack() as stack:
             stop([service.process.pid])
@@ -129,7 +129,7 @@ class Health(Case):
             time.sleep(1.5)  # in which it tries again
         until(lambda: service.get("/health") == (200, "ready\n"), "a descriptor")
         self.assert_well(service)
-        self.assertEqual(service.log.count("Too many open files"), 1)
+        self.assertLess(service.log.count("Too many open files"), 5)
 
     def test_busy_seconds(self) -> None:
         """From a read of lines to the next read: a search and its writes, and no wait for lines."""

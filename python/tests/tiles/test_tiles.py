@@ -10,7 +10,7 @@ import unittest
 from pathlib import Path
 
 from support import LONGEST, ROOT, wants
-from tiles_support import HOSTILE_LAYER, HOSTILE_NAME, Mapped, Server, ids_of, make_map, number_of, replies_of
+from tiles_support import HOSTILE_LAYER, HOSTILE_NAME, Mapped, Server, ids_of, large_map, make_map, number_of, replies_of
 
 from rtfilter.tiles.mercator import DEEPEST, HALF, cells_of, cuts, window_of
 
@@ -138,12 +138,10 @@ class Tiles(Mapped):
 
     def test_a_hot_spot_hides_no_map(self) -> None:
         """6,000 boxes at one place among 100,000: deep tiles that hold it have counts, and all others are as without it."""
-        folder = Path(self.folder, "hot")
-        make_map(folder, 100_000)
-        hot, (x, y) = folder / "hot.csv", (1_000_000, 1_000_000)
+        table, hot, (x, y) = large_map() / "boxes.csv", Path(self.folder, "hot.csv"), (1_000_000, 1_000_000)
         more = "".join(f"{1_000_000 + at},{x},{x + 100},{y},{y + 100},5\n" for at in range(6000))
-        hot.write_text((folder / "boxes.csv").read_text() + more)
-        with Server(folder / "boxes.csv") as plain, Server(hot) as server:
+        hot.write_text(table.read_text() + more)
+        with Server(table) as plain, Server(hot) as server:
             for z in range(DEEPEST + 1):
                 across, down = tile_at(z, (x, y))
                 for beside in (0, 1, 2):
@@ -159,11 +157,10 @@ class Tiles(Mapped):
         """GDAL writes boxes of the map that make_map makes."""
         wants("ogr2ogr")
         (command,) = re.findall(r"^\$ (ogr2ogr .*)$", (ROOT / "docs/tiles.md").read_text(), re.MULTILINE)
-        folder = Path(self.folder, "page")
-        make_map(folder, 100_000)
-        with Server(folder / "boxes.csv", "--layers", str(folder / "layers.csv")) as server:
-            subprocess.run(command.replace("http://127.0.0.1:8080/", server.address), shell=True, cwd=folder, check=True, timeout=LONGEST)
-        self.assertGreater(len(json.loads((folder / "towns.geojson").read_text())["features"]), 5)
+        with Server(large_map() / "boxes.csv", "--layers", str(large_map() / "layers.csv")) as server:
+            typed = command.replace("http://127.0.0.1:8080/", server.address)
+            subprocess.run(typed, shell=True, cwd=self.folder, check=True, timeout=LONGEST)
+        self.assertGreater(len(json.loads(Path(self.folder, "towns.geojson").read_text())["features"]), 5)
 
     def bounds(self) -> list[tuple[int, int]]:
         """The corners of all boxes."""

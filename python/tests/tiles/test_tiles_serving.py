@@ -23,7 +23,7 @@ from typing import Any
 from aiohttp.test_utils import TestClient, TestServer
 from chromium import Chromium
 from support import LONGEST, ROOT, environment, found, until, wants
-from tiles_support import BOXES, COMMAND, Mapped, Server, make_map
+from tiles_support import BOXES, COMMAND, Mapped, Server, large_map
 
 from rtfilter.tiles import server as serving
 from rtfilter.tiles.mercator import HALF, window_of
@@ -357,7 +357,7 @@ class Reloads(unittest.TestCase):
         """Requests are answered, and that is said once in a while: the disk is full, or the folder is gone for some time."""
         with Server(self.table, "--log", "/dev/full") as server:
             self.assertEqual([server.get("/health")[0].status for _ in range(5)], [200] * 5)
-            self.assertEqual(server.end(), (0, "rtfilter-tiles: --log /dev/full: lines are lost: No space left on device\n"))
+            self.assert_said(server, "rtfilter-tiles: --log /dev/full: lines are lost: No space left on device")
         folder, other = self.folder / "logs", self.folder / "moved"
         folder.mkdir()
         with Server(self.table, "--log", str(folder / "log")) as server:
@@ -366,10 +366,15 @@ class Reloads(unittest.TestCase):
             other.replace(folder)
             server.get("/nowhere")
             until(lambda: '"GET /nowhere HTTP/1.1" 404 ' in (folder / "log").read_text())
-            self.assertEqual(server.end(), (0, f"rtfilter-tiles: --log {folder}/log: lines are lost: No such file or directory\n"))
+            self.assert_said(server, f"rtfilter-tiles: --log {folder}/log: lines are lost: No such file or directory")
+
+    def assert_said(self, server: Server, line: str) -> None:
+        """At its end a server has said a line, once or, on a busy machine, now and then."""
+        status, said = server.end()
+        self.assertEqual((status, {*said.splitlines()}), (0, {line}))
 
     def test_messages(self) -> None:
-        """What isn't HTTP is a line each, without a traceback, and connections for which there is no descriptor one in a while."""
+        """What isn't HTTP is a line each, without a traceback; a lack of descriptors is one every ten seconds."""
         with Server(self.table, before=["prlimit", "--nofile=24"]) as server:
             for request in (b"<x> y z", b"GET /\x1b[31m HTTP/1.1", b"\0\0\0\0", b"GET / HTTP/1.1\r\nHost: x\r\nContent-Length: -1"):
                 self.assertEqual(server.reply_to(request + b"\r\n\r\n")[0].status, 400)
@@ -380,11 +385,11 @@ class Reloads(unittest.TestCase):
                 connection.close()
             self.assertEqual(server.get("/health")[0].status, 200)
             status, said = server.end()
-        *refused, last = said.splitlines()
-        self.assertEqual((status, len(refused)), (0, 4), said)
-        for line in refused:
+        lines = said.splitlines()
+        self.assertEqual((status, len(lines) in range(5, 9)), (0, True), said)
+        for line in lines[:4]:
             self.assertRegex(line, "^rtfilter-tiles: a request that isn't HTTP: 400, message=")
-        self.assertEqual(last, "rtfilter-tiles: socket.accept() out of system resource: [Errno 24] Too many open files")
+        self.assertEqual({*lines[4:]}, {"rtfilter-tiles: socket.accept() out of system resource: [Errno 24] Too many open files"})
 
     def test_an_address_of_ipv6(self) -> None:
         """Its browser names it in brackets."""
@@ -470,8 +475,7 @@ class Many(Serving):
 class Cost(unittest.TestCase):
     def test_a_tile(self) -> None:
         """Processor time of the server, compression and all."""
-        folder = Path(self.enterContext(tempfile.TemporaryDirectory()))
-        make_map(folder, 100_000)
+        folder = large_map()
         with Server(folder / "boxes.csv", "--names", str(folder / "names.csv")) as server:
             connection = server.connected()
             self.addCleanup(connection.close)

@@ -1,6 +1,9 @@
 """What the tests of the map share: the program, a map, a server, and what a process has cost."""
 
+import atexit
+import functools
 import json
+import shutil
 import signal
 import socket
 import subprocess
@@ -22,6 +25,15 @@ HOSTILE_LAYER = "<b>buildings</b>"
 def make_map(folder: Path, boxes: int, seed: int = 1) -> None:
     words = [sys.executable, "-B", "-m", "rtfilter.tiles.make_map", folder, "--boxes", boxes, "--seed", seed]
     subprocess.run([*map(str, words)], check=True, timeout=LONGEST, env=environment(), stderr=subprocess.PIPE, text=True)
+
+
+@functools.cache
+def large_map() -> Path:
+    """The folder of a map of 100,000 boxes, which is made once."""
+    folder = Path(tempfile.mkdtemp())
+    atexit.register(shutil.rmtree, folder)
+    make_map(folder, 100_000)
+    return folder
 
 
 def replies_of(table: Path, lines: Iterable[str]) -> list[list[str]]:
