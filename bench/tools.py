@@ -81,9 +81,11 @@ def service(program: Path, table: Path, folder: Path) -> Iterator[tuple[int, str
         assert process.stderr is not None
         while "ready" not in process.stderr.readline():
             pass
-        yield process.pid, path
-        process.terminate()
-        process.communicate()
+        try:
+            yield process.pid, path
+        finally:
+            process.terminate()
+            process.communicate()
 
 
 def connected(path: str) -> socket.socket:
@@ -128,10 +130,11 @@ def rate(path: str, connections: int, batch: int, lines: list[bytes]) -> float:
     return total / SECONDS
 
 
-def pss(process: int) -> int:
-    """The memory of a process in bytes, with its share of what it has in common with others."""
-    (found,) = re.findall(r"^Pss:\s+(\d+) kB", Path(f"/proc/{process}/smaps_rollup").read_text(), re.MULTILINE)
-    return int(found) * 1024
+def memory(process: int) -> int:
+    """The memory of a process in bytes: with its share of what it has in common with others, and its page tables."""
+    (shared,) = re.findall(r"^Pss:\s+(\d+) kB", Path(f"/proc/{process}/smaps_rollup").read_text(), re.MULTILINE)
+    (tables,) = re.findall(r"^VmPTE:\s+(\d+) kB", Path(f"/proc/{process}/status").read_text(), re.MULTILINE)
+    return (int(shared) + int(tables)) * 1024
 
 
 def answered(path: str, lines: list[bytes]) -> socket.socket:
@@ -157,9 +160,9 @@ def print_service(program: Path, rounds: int, folder: Path) -> None:
             print(ROW % (f"service: lines a second, {connections} connections, {batch} at once", f"{best:,.0f}"), flush=True)
     with service(program, large, folder) as (process, path):
         (loaded,) = children(process)
-        before = pss(loaded)
+        before = memory(loaded)
         clients = [answered(path, some_lines(2000, 1_000_000)) for _ in range(HELD)]
-        more = sum(map(pss, [loaded, *children(loaded)])) - before
+        more = sum(map(memory, [loaded, *children(loaded)])) - before
         print(ROW % (f"service: memory over 1,000,000 boxes; of {HELD} connections more", f"{before / 1e6:.1f} MB; {more / 1e6:.1f} MB"))
         for it in clients:
             it.close()
