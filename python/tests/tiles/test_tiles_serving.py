@@ -1,7 +1,8 @@
-"""Descriptions of tiles, caches and compression, pages of other origins, and many processes that serve side by side."""
+"""Descriptions of tiles, caches and compression, pages of other origins, loads, ends and messages."""
 
 import contextlib
 import csv
+import functools
 import gzip
 import json
 import os
@@ -15,10 +16,10 @@ import tempfile
 import threading
 import time
 import unittest
+from collections.abc import Iterator
 from http.client import HTTPConnection, HTTPResponse
-from http.server import BaseHTTPRequestHandler, ThreadingHTTPServer
+from http.server import SimpleHTTPRequestHandler, ThreadingHTTPServer
 from pathlib import Path
-from typing import Any
 
 from aiohttp.test_utils import TestClient, TestServer
 from chromium import Chromium
@@ -234,7 +235,7 @@ class Origins(Serving):
         wants("chromium")
         browser = Chromium(400, 300)
         self.addCleanup(browser.close)
-        with blank_pages() as port:
+        with files_served(self.table.parent) as port:
             origin = f"http://127.0.0.1:{port}"
             for options, expected in ((["--origin", origin], 200), ([], "TypeError: Failed to fetch")):
                 with Server(self.table, *options) as server:
@@ -491,19 +492,9 @@ class Cost(unittest.TestCase):
 
 
 @contextlib.contextmanager
-def blank_pages() -> Any:
-    """A server of blank pages, by its port."""
-
-    class Blank(BaseHTTPRequestHandler):
-        def do_GET(self) -> None:
-            self.send_response(200)
-            self.send_header("Content-Type", "text/html")
-            self.end_headers()
-
-        def log_message(self, *_: Any) -> None:
-            pass
-
-    with ThreadingHTTPServer(("127.0.0.1", 0), Blank) as server:
+def files_served(folder: Path) -> Iterator[int]:
+    """A server of another origin, by its port."""
+    with ThreadingHTTPServer(("127.0.0.1", 0), functools.partial(SimpleHTTPRequestHandler, directory=str(folder))) as server:
         thread = threading.Thread(target=server.serve_forever)
         thread.start()
         try:
