@@ -212,9 +212,8 @@ def test_a_stream_that_cannot_be_repeated(zones: Path, log: Path) -> None:
     words = {**environment(), "PATH": f"{folder}:{os.environ['PATH']}"}
     with subprocess.Popen(["bash", "-c", f"{typed} wait"], cwd=folder, env=words, stderr=subprocess.DEVNULL, process_group=0) as both:
         try:
-            until(path.is_socket)
             with socket.socket(socket.AF_UNIX) as sender:
-                sender.connect(str(path))
+                until(lambda: sender.connect_ex(str(path)) == 0)
                 sender.sendall(b"a,50,1,2\nx\n")
                 until(lambda: b'"line": 4' in events.read_bytes())
         finally:
