@@ -19,6 +19,7 @@ from .mercator import DEEPEST
 from .styles import style, tile_json
 from .views import Views
 
+WORKERS = 4  # views and lines that are answered at a time
 LEAST_PACKED = 256  # bytes: fewer aren't worth it
 PAGES = {"/": ("page.html", "text/html"), "/page.js": ("page.js", "text/javascript"), "/page.css": ("page.css", "text/css")}
 TILE = re.compile(r"/(0|[1-9][0-9]?)/(0|[1-9][0-9]{0,6})/(0|[1-9][0-9]{0,6})\.pbf")
@@ -63,6 +64,7 @@ class Server:
         self._headers["Vary"] = "Accept-Encoding, Origin" if origins else "Accept-Encoding"
         self._headers["Cross-Origin-Resource-Policy"] = "cross-origin" if origins else "same-origin"
         self._replies: Counter[int] = Counter()
+        self._workers = asyncio.Semaphore(WORKERS)
         self.put(served)
 
     def put(self, served: Served) -> None:
@@ -167,16 +169,21 @@ class Server:
         if not all(NUMBER.fullmatch(found.get(side, "")) for side in sides):
             raise web.HTTPBadRequest(reason="x1, x2, y1 and y2 are whole numbers")
         x1, x2, y1, y2 = (int(found[side]) for side in sides)
-        view = await asyncio.to_thread(self.served.views.view, (x1, x2, y1, y2), layers_of(found))
-        return reply(request, "application/json", json_of(view))
+        return await self._answer(request, functools.partial(self.served.views.view, (x1, x2, y1, y2), layers_of(found)))
 
     async def _ask(self, request: web.Request) -> web.Response:
         line = parameters(request.query, "q").get("q")
         # (bytes that are no UTF-8 come as surrogates)
         if line is None or not LINE.fullmatch(line):
             raise web.HTTPBadRequest(reason="q is one query line, in UTF-8")
-        answer = await asyncio.to_thread(self.served.views.ask, line)
-        return reply(request, "application/json", json_of(answer))
+        return await self._answer(request, functools.partial(self.served.views.ask, line))
+
+    async def _answer(self, request: web.Request, found: Callable[[], object]) -> web.Response:
+        """What is found in a thread, when others are done. For a client that has left meanwhile nothing is."""
+        async with self._workers:
+            if request.transport is None:
+                raise web.HTTPRequestTimeout
+            return reply(request, "application/json", json_of(await asyncio.to_thread(found)))
 
     async def _tile(self, request: web.Request) -> web.Response:
         address = TILE.fullmatch(request.raw_path.partition("?")[0])

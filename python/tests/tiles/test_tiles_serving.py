@@ -473,6 +473,15 @@ class Many(Serving):
         self.assertEqual(faults, [])
 
 
+    def test_clients_that_leave(self) -> None:
+        """Nothing is done for those whose turn hasn't come: others are answered meanwhile."""
+        with Server(self.table) as server:
+            for _ in range(200):
+                with socket.create_connection(("127.0.0.1", server.port)) as leaving:
+                    leaving.sendall(b"GET /view?x1=-90000000&x2=90000000&y1=-90000000&y2=90000000 HTTP/1.1\r\nHost: localhost\r\n\r\n")
+            until(lambda: re.search(rb'_total{status="408"} \d{3}\n', server.get("/metrics")[1]))
+
+
 class Cost(unittest.TestCase):
     def test_a_tile(self) -> None:
         """Processor time of the server, compression and all."""
