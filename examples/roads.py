@@ -72,7 +72,7 @@ class Lines:
 
 
 def whole(numbers: Any) -> Any:
-    """Metres of the plane as integers. Raises ValueError where it has no such place."""
+    """Metres of the plane as integers. Raises ValueError if it has no such place."""
     if not numpy.isfinite(numbers).all():
         raise ValueError("a place that lies outside of the plane")
     return numbers.astype("i8")

@@ -39,7 +39,7 @@ class File(NamedTuple):
 
 
 def check(path: Path) -> None:
-    """Raises `ValueError` where a file needs another machine, library or version than the tag stands for."""
+    """Raises `ValueError` if a file needs another machine, library or version than the tag stands for."""
     text = subprocess.run(["objdump", "-p", path], capture_output=True, text=True, check=True).stdout
     if "file format elf64-x86-64" not in text:
         raise ValueError(f"{path} isn't for x86-64")

@@ -6,14 +6,14 @@
  * program, and the table is in memory once.
  *
  * The starter of the program gives it as standard input one end of a pair of sockets (SOCK_SEQPACKET), and keeps the other:
- * where standard input is something else, the program is as it always is.
+ * if standard input is something else, the program is as it always is.
  *
  *   A byte with a connected socket (SCM_RIGHTS), to the program: a connection. The first is to be there before the
  *   program is, and is served when the table stands; no other is to be sent before that one is answered.
  *
  *   `struct report`, from the program: of each connection, in their order, that it is begun, or why it isn't; and the
  *   end of each that was begun. Nothing is read from one before it is reported to be begun, so that it may be given to
- *   another program where this one ends before. Where the starter shuts its end for reading, nothing is reported.
+ *   another program if this one ends before. If the starter shuts its end for reading, nothing is reported.
  *
  *   The starter's death, and its end closed once the table stands: the program ends, with its connections.
  *
@@ -65,7 +65,7 @@ enum { PAGE = 4096 };
 struct counts {
     _Atomic uint64_t lines, nanoseconds;
 };
-static struct counts of_none; /* these two stand in the place of a file */
+static struct counts of_none; /* these two stand for a file */
 static _Atomic uint64_t never;
 static struct counts *counts = &of_none;
 static const _Atomic uint64_t *is_ending = &never;
@@ -90,7 +90,7 @@ static int confine(void)
         LOAD(arch), IF(BPF_JEQ, AUDIT_ARCH_X86_64, 1, 0), END,
         LOAD(nr),
         IF(BPF_JEQ, SYS_read, 5, 0), IF(BPF_JEQ, SYS_write, 4, 0), IF(BPF_JEQ, SYS_munmap, 3, 0),
-        IF(BPF_JEQ, SYS_clock_gettime, 2, 0), /* where the clock can't be read without a call */
+        IF(BPF_JEQ, SYS_clock_gettime, 2, 0), /* if the clock can't be read without a call */
         IF(BPF_JEQ, SYS_exit_group, 1, 0), IF(BPF_JEQ, SYS_brk, 1, 7),
         ALLOW,
         LOAD_HIGH(args[0]), IF(BPF_JGT, (uint32_t)(end >> 32), 4, 0), IF(BPF_JEQ, (uint32_t)(end >> 32), 0, 2),
@@ -147,7 +147,7 @@ static ssize_t read_lines(void *buffer, size_t size)
     lines = since = 0;
     if (*is_ending && !is_in_line)
         return 0;
-    do /* a read with a limit of time fails where the process was stopped and goes on */
+    do /* a read with a limit of time fails if the process was stopped and goes on */
         got = syscall(SYS_read, STDIN_FILENO, buffer, size);
     while (got < 0 && errno == EINTR);
     if (got > 0) {
@@ -167,7 +167,7 @@ static ssize_t read_lines(void *buffer, size_t size)
 
 /* ---- in the program */
 
-/* Reports to the starter, where it listens; that it has ended is noticed elsewhere. */
+/* Reports to the starter, if it listens; that it has ended is noticed elsewhere. */
 static void report(int process, int status)
 {
     struct report sent = { process, status };
@@ -246,7 +246,7 @@ static void serve(void)
     }
 }
 
-/* Before the program's main: where the starter ends, the kernel ends this process, whatever signals were blocked or ignored by
+/* Before the program's main: if the starter ends, the kernel ends this process, whatever signals were blocked or ignored by
  * whom. */
 __attribute__((constructor)) static void watch_starter(void)
 {

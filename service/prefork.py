@@ -22,12 +22,12 @@ BEGUN = -1  # in place of a status
 NUMBER = struct.Struct("Q")
 COUNTS = struct.Struct("QQ")  # lines that were answered, and the nanoseconds that this took
 PAGE = 4096
-FIRST_FREE = 3  # descriptor: those below are standard files, even where they are closed here
+FIRST_FREE = 3  # descriptor: those below are standard files, even if they are closed here
 
 
 def library_of(program: "str | os.PathLike[str]") -> Path | None:
     """The library that belongs to a program: beside it, or in ../lib/rtfilter from its folder, links followed. None
-    where there is no such program, or no library."""
+    if there is no such program, or no library."""
     found = shutil.which(program)
     if found is None:
         return None
@@ -41,7 +41,7 @@ class Started(NamedTuple):
 
     process: subprocess.Popen[bytes]  # which leads a group of processes
     control: socket.socket  # non-blocking: `give` gives it connections, and reports come from it
-    first: socket.socket  # `ok 1 SIZE` comes here once it serves; an end without that, where it never will
+    first: socket.socket  # `ok 1 SIZE` comes here once it serves; an end without that, if it never will
 
 
 class Common:
@@ -64,7 +64,7 @@ class Common:
 
 
 def give(control: socket.socket, connection: socket.socket) -> None:
-    """Hands a connection over. Raises `BlockingIOError` where the program has enough to take, and `ConnectionError` where it
+    """Hands a connection over. Raises `BlockingIOError` if the program has enough to take, and `ConnectionError` if it
     has ended."""
     socket.send_fds(control, [b"."], [connection.fileno()])
 
@@ -78,7 +78,7 @@ def pair(kind: int = socket.SOCK_STREAM) -> tuple[socket.socket, socket.socket]:
 
 
 def start(command: Sequence[str], library: Path, errors: int, log: int, common: Common | None = None) -> Started:
-    """Starts a program, and doesn't wait for it. Raises `OSError` where it can't be started.
+    """Starts a program, and doesn't wait for it. Raises `OSError` if it can't be started.
 
     `errors` is the descriptor of its standard error until it serves, and `log` that from then on.
     """

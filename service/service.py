@@ -22,10 +22,10 @@ import prefork
 from listening import peer_of
 
 PAUSE, BETWEEN_COMPLAINTS = 0.1, 10.0  # seconds before another try to accept, and before such a fault is logged again
-FIRST_PAUSE, LONGEST_PAUSE = 0.1, 10.0  # seconds before a program is started anew
+FIRST_PAUSE, LONGEST_PAUSE = 0.1, 10.0  # seconds before a program is restarted
 GRACE = 2.0  # seconds that a program has to begin what it was given
 MOST_PENDING = 4  # connections that a program may have to begin yet: others wait in the backlog
-RESERVED = 100  # descriptors that connections leave to loads and to health, or half of all where there are few
+RESERVED = 100  # descriptors that connections leave to loads and to health, or half of all if there are few
 LONGEST_ERROR = 1 << 12  # bytes that a program writes of a load
 NO_SERVICE = 1
 SIGNALS = signal.SIGHUP, signal.SIGTERM, signal.SIGINT
@@ -37,11 +37,11 @@ NOT_OPENED = "cannot open table"  # how the program says that
 
 # Of a program, with descriptors for what it writes of its load and later.
 Start = Callable[[int, int, prefork.Common], prefork.Started]
-End = asyncio.Future[int | None]  # the status of a connection's process, or None where it wasn't begun
+End = asyncio.Future[int | None]  # the status of a connection's process, or None if it wasn't begun
 
 
 def log(text: str) -> None:
-    """One line, where it can be written without a wait. It has the time, unless the journal takes it and adds that."""
+    """One line, if it can be written without a wait. It has the time, unless the journal takes it and adds that."""
     with contextlib.suppress(OSError):
         if select.select([], [2], [], 0)[1]:
             moment = "" if is_journal(2) else time.strftime("%Y-%m-%dT%H:%M:%SZ ", time.gmtime())
@@ -89,7 +89,7 @@ def handle_signals(loop: asyncio.AbstractEventLoop, handlers: Mapping[int, Calla
 
 
 def notify(text: str) -> None:
-    """Reports to systemd, where that has started this (sd_notify)."""
+    """Reports to systemd, if that has started this (sd_notify)."""
     if path := os.environ.get("NOTIFY_SOCKET"):
         with contextlib.suppress(OSError), socket.socket(socket.AF_UNIX, socket.SOCK_DGRAM) as there:
             there.sendto(text.encode(), "\0" + path[1:] if path[0] == "@" else path)
@@ -126,7 +126,7 @@ class Service:
         self._most_connections = descriptors - min(RESERVED, descriptors // 2)  # for connections
         self._last_complaint = -BETWEEN_COMPLAINTS
         self._pause = FIRST_PAUSE
-        self._status = NO_SERVICE  # where the first table isn't loaded
+        self._status = NO_SERVICE  # if the first table isn't loaded
 
     async def run(self, health_listener: socket.socket | None) -> int:
         """Serves until a signal ends it, and returns the exit status."""
@@ -145,7 +145,7 @@ class Service:
         await asyncio.wait([keeping])
         notify("STOPPING=1")
         self._table = None
-        self._state_changed()  # clients wait for another service from now on, where systemd has the sockets
+        self._state_changed()  # clients wait for another service from now on, if systemd has the sockets
         await self._end_connections()
         await asyncio.gather(*map(self._end, self._tables))
         return 0 if keeping.cancelled() else self._status
@@ -192,14 +192,14 @@ class Service:
         self._changed.clear()
 
     async def _wait_until(self, is_so: Callable[[], object], most: float | None = None) -> None:
-        """Waits until something is so, or for so many seconds."""
+        """Waits until something is so, or for a number of seconds."""
         with contextlib.suppress(TimeoutError):
             async with asyncio.timeout(most):
                 while not is_so():
                     await self._changed.wait()
 
     async def _keep_loaded(self) -> None:
-        """Loads the table, and anew when asked to, or where its program has ended, after a pause that grows unless that
+        """Loads the table, and again when asked to, or if its program has ended, after a pause that grows unless that
         has run for a while. A request for another table ends that. Where it can't be loaded, nothing changes."""
         try:
             await self._load("ready")
@@ -220,7 +220,7 @@ class Service:
                 notify("READY=1")
 
     async def _load(self, what: str) -> None:
-        """Has a program load the table, and then answer. Raises `OSError`, where it doesn't."""
+        """Has a program load the table, and then answer. Raises `OSError` if it doesn't."""
         reply = b""
         with open(os.memfd_create("rtfilter-errors"), "rb") as errors:
             try:
@@ -299,7 +299,7 @@ class Service:
         table.control.close()
         kill_group(table.process.pid)
         status = table.process.wait()
-        with contextlib.suppress(ChildProcessError):  # its connections are this process's only where that is process 1
+        with contextlib.suppress(ChildProcessError):  # its connections are this process's only if that is process 1
             while True:
                 os.waitpid(-table.process.pid, 0)
         self._tables.remove(table)

@@ -17,7 +17,7 @@ enum {
     FIRST = 1 << 13,      /* and many queries */
     MANY = 1 << 20,       /* answers, and bytes of a reply, that it keeps a buffer for */
     STEP = 64,            /* queries of one call of the library, or pairs, between two looks at the clock, at most */
-    SLICE_NS = 10000000,  /* after so many nanoseconds a signal is looked for */
+    SLICE_NS = 10000000,  /* nanoseconds after which a signal is looked for */
     AHEAD = 12,           /* answers between the one that is filtered and the one whose box is fetched */
     MOST_VERTICES = 16,
 };
@@ -66,7 +66,7 @@ static void end_worker(worker *it)
     free(it);
 }
 
-/* Resizes the buffers. Those of before stay where there is no memory. */
+/* Resizes the buffers. The old ones stay if there is no memory. */
 static bool resize(worker *it, size_t capacity)
 {
     int64_t *ids = realloc(it->ids, capacity * sizeof *ids);
@@ -141,7 +141,7 @@ static void table_free(PyObject *self)
 
 /* ---- Buffers */
 
-/* Views a contiguous buffer of items of one size, as many as *len where that isn't negative; else sets it. */
+/* Views a contiguous buffer of items of one size, as many as *len if that isn't negative; else sets it. */
 static bool view_items(PyObject *from, Py_buffer *view, Py_ssize_t size, Py_ssize_t *len)
 {
     if (PyObject_GetBuffer(from, view, PyBUF_C_CONTIGUOUS) < 0)
@@ -412,7 +412,7 @@ static bool put_order(request *it, PyObject *value)
     return put_numbers(it, kind, value);
 }
 
-/* Raises that a number is out of range. Takes the words that an error names; null where Python doesn't print as many digits. */
+/* Raises that a number is out of range. Takes the words that an error names; null if Python doesn't print as many digits. */
 static void refuse_words(PyObject *words)
 {
     if (!words)
@@ -665,13 +665,13 @@ static int64_t nanoseconds(void)
 typedef struct {
     rtfilter_queries left; /* those that aren't answered yet */
     size_t skip;           /* how many answers of the first of them were taken */
-    Py_ssize_t place;      /* the place of the first of them, among so many */
+    Py_ssize_t place;      /* the index of the first of them, among `total` */
     Py_ssize_t total;
-    uint64_t *counts;      /* where the next count goes; null where answers are found */
+    uint64_t *counts;      /* the next count goes here; null if answers are found */
     int64_t *places, *ids;
     rtfilter_score *scores; /* null if there are to be none */
     size_t capacity, kept;
-    const double *boxes, *windows; /* by id and by place; null where nothing is filtered */
+    const double *boxes, *windows; /* by id and by place; null if nothing is filtered */
     Py_ssize_t box_count, window_count;
 } finding;
 
@@ -710,7 +710,7 @@ static void keep(finding *it, const rtfilter_answers *part)
     it->kept = kept;
 }
 
-/* Answers so many queries, or counts: the library's code. */
+/* Answers a number of queries, or counts: the library's code. */
 static int answer(finding *it, worker *by, size_t len)
 {
     size_t ends[STEP];
@@ -733,7 +733,7 @@ static int answer(finding *it, worker *by, size_t len)
 }
 
 /* Answers queries until all are answered, the arrays are full, or it is time to look for a signal. A step with twice as many queries
- * takes no longer than all steps before, where queries are alike. */
+ * takes no longer than all steps before, if queries are alike. */
 static int answer_slice(finding *it, worker *by)
 {
     const int64_t begun = nanoseconds();
@@ -743,7 +743,7 @@ static int answer_slice(finding *it, worker *by)
     return code;
 }
 
-/* Grows the bytearrays of places, ids and scores where they are full, and sets where they are: for as many answers to the queries that
+/* Grows the bytearrays of places, ids and scores if they are full, and sets their addresses: for as many answers to the queries that
  * are left as those so far had, within bounds. */
 static bool grow(finding *it, bool is_full, PyObject *places, PyObject *ids, PyObject *scores)
 {
@@ -817,7 +817,7 @@ static PyObject *find_each(Table *self, PyObject *args)
     return is_done ? PyLong_FromSize_t(it.kept) : NULL;
 }
 
-/* _count_each(queries, place): numbers of 8 bytes, where the first query has this place. */
+/* _count_each(queries, place): numbers of 8 bytes; the first query has this index. */
 static PyObject *count_each(Table *self, PyObject *args)
 {
     PyObject *from, *all = NULL;

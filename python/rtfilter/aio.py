@@ -63,7 +63,7 @@ class Client:
     """A table that a service holds. The calls and errors are those of `rtfilter.Client`.
 
     It connects with its first call. Its connection answers one call at a time, in the order of the calls. A call that is
-    cancelled or takes longer than `timeout` seconds closes the connection, and the next call connects anew.
+    cancelled or takes longer than `timeout` seconds closes the connection, and the next call connects again.
     """
 
     def __init__(self, address: Address, timeout: float | None = None) -> None:

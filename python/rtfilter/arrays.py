@@ -36,7 +36,7 @@ def is_frame(value: object) -> bool:
 
 def columns_of(value: Any, what: str, required: Sequence[str], optional: Sequence[str] = ()) -> Columns:
     """Columns of whole numbers: of an array of two dimensions, of a list of rows, or of a frame or an array with fields, by
-    their names. Raises TypeError where a number isn't whole, a column is missing or there twice, or the shape is another."""
+    their names. Raises TypeError if a number isn't whole, a column is missing or there twice, or the shape is another."""
     columns = _named(value, what, required, optional)
     if columns is not None:
         return [whole(it, what) for it in columns]
@@ -51,7 +51,7 @@ def columns_of(value: Any, what: str, required: Sequence[str], optional: Sequenc
 
 def floats_of(value: Any, what: str, names: Sequence[str]) -> NDArray[numpy.float64]:
     """An array of floats: an array or a list of numbers, or the columns of a frame or an array with fields, by their names. Raises
-    TypeError where something is no number, is masked, or a column is missing or there twice."""
+    TypeError if something is no number, is masked, or a column is missing or there twice."""
     columns = _named(value, what, names)
     array = _unmasked(_read(value, what), what) if columns is None else numpy.stack(columns, axis=1)
     if array.dtype.kind not in "biufO":
@@ -60,7 +60,7 @@ def floats_of(value: Any, what: str, names: Sequence[str]) -> NDArray[numpy.floa
 
 
 def _named(value: Any, what: str, required: Sequence[str], optional: Sequence[str] = ()) -> Columns | None:
-    """The columns of a frame or of an array with fields, by their names; None where there are no names."""
+    """The columns of a frame or of an array with fields, by their names; None if there are no names."""
     names = value.columns if is_frame(value) else getattr(getattr(value, "dtype", None), "names", None)
     if names is None:
         return None
@@ -114,7 +114,7 @@ def whole(array: NDArray[Any], what: str) -> NDArray[Any]:
 
 
 def _unmasked(array: NDArray[Any], what: str) -> NDArray[Any]:
-    """An array without a mask. Raises TypeError where a number is masked."""
+    """An array without a mask. Raises TypeError if a number is masked."""
     if isinstance(array, numpy.ma.MaskedArray) and array.mask.any():
         raise TypeError(f"{what}: a number is masked")
     return numpy.asarray(array)
@@ -130,7 +130,7 @@ def _whole(number: Any, what: str, at: int, width: int) -> int:
 
 
 def ids_of(values: NDArray[Any], what: str) -> NDArray[numpy.int64]:
-    """A column of ids. Raises TypeError where one isn't whole, and ValueError where one is out of range."""
+    """A column of ids. Raises TypeError if one isn't whole, and ValueError if one is out of range."""
     ids = whole(values, what)
     if first_beyond([ids], ["i8"]) is not None:
         raise ValueError(f"{what}: a number is out of the range of 64 bits")
@@ -145,7 +145,7 @@ def limits_of(format: str) -> tuple[int, int]:
 
 
 def first_beyond(columns: Columns, formats: Sequence[str]) -> tuple[int, int] | None:
-    """The first row with a number out of the range of its column's format, and the column; None where there is none."""
+    """The first row with a number out of the range of its column's format, and the column; None if there is none."""
     found = []
     for at, (column, format) in enumerate(zip(columns, formats)):
         if numpy.can_cast(column.dtype, format) or not len(column):
@@ -251,7 +251,7 @@ def numbers_of(buffer: bytearray, format: str, count: int) -> NDArray[Any]:
 
 
 def scores_of(buffer: bytearray, count: int) -> NDArray[Any]:
-    """Scores as unsigned numbers of 64 bits, or as objects where one has more bits."""
+    """Scores as unsigned numbers of 64 bits, or as objects if one has more bits."""
     low, high = numpy.frombuffer(buffer, "u8", 2 * count).reshape(-1, 2).T
     scores: NDArray[Any] = low + (high.astype(object) << 64) if high.any() else low.copy()
     return scores

@@ -23,14 +23,14 @@ LONGEST_WAIT = 2e6  # seconds: poll takes milliseconds of 32 bits
 
 
 class Deadline:
-    """The end of a call, so many seconds from now; None is no end."""
+    """The end of a call, this many seconds from now; None is no end."""
 
     def __init__(self, seconds: float | None) -> None:
         self._seconds = seconds
         self._until = None if seconds is None else time.monotonic() + seconds
 
     def left(self) -> float | None:
-        """The seconds that are left, or as many as a wait may have. Raises TimedOut where none are."""
+        """The seconds that are left, or as many as a wait may have. Raises TimedOut if none are."""
         if self._until is None:
             return None
         left = self._until - time.monotonic()
@@ -67,7 +67,7 @@ class Connection:
         return question.read(bytes(received), first)
 
     def _sent(self, unsent: memoryview) -> int:
-        """How many bytes were sent. All, where the service closed the connection: the next read finds out why."""
+        """How many bytes were sent. All, if the service closed the connection: the next read finds out why."""
         try:
             return self._socket.send(unsent) if unsent else 0
         except BlockingIOError:
@@ -95,8 +95,8 @@ class Client(SingleCalls):
 
     Threads may share a client, whose connection answers one call at a time. `timeout` is how many seconds a call may take,
     with all of its waits. A call that ends early closes the connection, and the next call reconnects; so does one after the
-    service closed it. Raises OSError where there is no service, Disconnected where it closes the connection during a call,
-    TimedOut where it doesn't answer in time, and RuntimeError in a child of a fork.
+    service closed it. Raises OSError if there is no service, Disconnected if it closes the connection during a call,
+    TimedOut if it doesn't answer in time, and RuntimeError in a child of a fork.
     """
 
     def __init__(self, address: Address, timeout: float | None = None) -> None:

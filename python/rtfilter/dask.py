@@ -29,7 +29,7 @@ from .table import MOST_ENTRIES, Rtfilter
 
 Frame = Any  # of pandas, geopandas or dask, which have no types here
 GEOMETRY = "geometry"
-SAMPLE, LEAST_SAMPLE = 0.01, 1000  # of each partition of boxes, to find where to cut: this part of its rows, or so many
+SAMPLE, LEAST_SAMPLE = 0.01, 1000  # of each partition of boxes, to find the cuts: this part of its rows, or at least this many
 TABLE_BYTES = 36  # of a box in a table
 IDS = pandas.DataFrame({"id": pandas.Series(dtype="i8")})
 SCORED = IDS.assign(score=pandas.Series(dtype="u8"))
@@ -66,7 +66,7 @@ class Table:
     """A CSV table that each worker process opens when it is first queried, and keeps.
 
     It is pickled as the name, size and time of change of its file, which every worker has to find under the same name. The
-    settings are those of `Rtfilter`. Raises ValueError where a worker finds another size or time, OSError where it can't read.
+    settings are those of `Rtfilter`. Raises ValueError if a worker finds another size or time, OSError if it can't read.
     """
 
     def __init__(self, file: Any, *, header: bool = False, fanout: int = 16, max_entries: int = MOST_ENTRIES) -> None:
@@ -157,7 +157,7 @@ class Boxes:
 
     def join(self, frame: Frame, region: type = Window, *, on: Layers | None = None, predicate: str | None = None) -> Frame:
         """The rows of `frame`, each once for every box that it accepts, by id, with the columns of the box but for its geometry. A
-        column whose name `frame` has too gets the suffix `_right`. Raises ValueError where `frame` has this name too."""
+        column whose name `frame` has too gets the suffix `_right`. Raises ValueError if `frame` has this name too."""
         nothing = Found(numpy.empty(0, "i8"), numpy.empty(0, "i8"), None, _without_geometry(self._meta))
         meta = _with_columns(_meta_of(frame), [nothing], None)
         return self._answers(frame, meta, self._ask(region, None, None, on, predicate), _with_columns, has_columns=True)
@@ -248,8 +248,8 @@ sizeof.register((WholePart, FloatPart), size_of)
 
 
 def spatial_shuffle(frame: Frame, partitions: int) -> Frame:
-    """The rows of a frame of boxes in so many partitions of about the same size, each of boxes whose centres lie close together:
-    slices by x, cut by y, where a sample of the rows shows.
+    """The rows of a frame of boxes in a number of partitions of about the same size, each of boxes whose centres lie close together:
+    slices by x, cut by y, at the places that a sample of the rows gives.
 
     The frame is read twice. Write the new one to files before it is loaded, or a lost worker costs another shuffle.
     """
@@ -276,7 +276,7 @@ def _stamp_of(file: str) -> tuple[int, int]:
 
 
 def _meta_of(frame: Frame, required: Sequence[str] = ()) -> Frame:
-    """The columns of a dask dataframe. Raises TypeError for another frame, and where one of these columns is missing."""
+    """The columns of a dask dataframe. Raises TypeError for another frame, and if one of these columns is missing."""
     if not isinstance(frame, dask.dataframe.DataFrame):
         raise TypeError(f"frame is a dask dataframe, and not {type(frame).__name__}")
     for column in required:
@@ -286,7 +286,7 @@ def _meta_of(frame: Frame, required: Sequence[str] = ()) -> Frame:
 
 
 def _sides_of(frame: Frame) -> Sequence[str]:
-    """The columns that say where boxes lie."""
+    """The columns of the sides of boxes."""
     return [GEOMETRY] if GEOMETRY in getattr(frame, "columns", ()) else BOUNDS
 
 

@@ -86,7 +86,7 @@ class FloatBoxes:
         return [*rows[:, :2].min(0, initial=numpy.inf).tolist(), *rows[:, 2:].max(0, initial=-numpy.inf).tolist()]
 
     def meeting(self, bounds: Floats, is_exact: bool = True) -> tuple[Places, Places]:
-        """The places of bounds, and of the boxes that overlap each of them; perhaps more, where it needn't be exact."""
+        """The places of bounds, and of the boxes that overlap each of them; perhaps more, if it needn't be exact."""
         having = numpy.flatnonzero(~numpy.isnan(bounds).any(axis=1))
         sound = numpy.ascontiguousarray(bounds[having])
         whole, are_whole = self._grid.widened(sound)

@@ -60,7 +60,7 @@ class STRtree:
 
     @property
     def bounds(self) -> tuple[float, float, float, float] | None:
-        """The least box around all geometries, as min_x, min_y, max_x, max_y; None where there are none."""
+        """The least box around all geometries, as min_x, min_y, max_x, max_y; None if there are none."""
         min_x, min_y, max_x, max_y = self._boxes.extent()
         return (min_x, min_y, max_x, max_y) if len(self) else None
 

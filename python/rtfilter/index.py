@@ -14,7 +14,7 @@ class Index:
     """Boxes that are loaded at once and queried as those of rtree's `Index` are. Ids are ascending.
 
     `stream` has an item for each box: its id, its coordinates, and whatever else, which is ignored. Coordinates are decimals:
-    min_x, min_y, max_x, max_y where `interleaved`, else min_x, max_x, min_y, max_y; two are a point. Raises ValueError for
+    min_x, min_y, max_x, max_y if `interleaved`, else min_x, max_x, min_y, max_y; two are a point. Raises ValueError for
     infinite or turned coordinates, and for an id that is there twice.
     """
 

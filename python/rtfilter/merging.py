@@ -17,7 +17,7 @@ from .regions import Circle, Covers
 Rows = NDArray[numpy.int64]
 """Indices of queries."""
 Piece = tuple[Rows, NDArray[Any], NDArray[Any] | None]
-"""Answers by query, score and id: the index of the query, the id, and the score where answers have one."""
+"""Answers by query, score and id: the index of the query, the id, and the score if answers have one."""
 
 LEAST, GREATEST = -(2**31), 2**32  # of the numbers of a query
 DOWN = 1 - 2.0**-50  # takes more from the square of a distance than rounding adds to it, and takes from a score
@@ -64,7 +64,7 @@ def is_in_two_goes(queries: Queries) -> bool:
 
 
 def merged(count: int, pieces: list[Piece], limit: int | None) -> Piece:
-    """Answers to so many queries as one piece, of each query at most `limit`."""
+    """Answers to a number of queries as one piece, of each query at most `limit`."""
     having = [it for it in pieces if len(it[0])]
     if len(having) < 2:
         return [*having, *pieces][0]
@@ -137,7 +137,7 @@ def _squares(columns: Sequence[Any], bounds: NDArray[Any]) -> NDArray[numpy.floa
 
 
 def _reached(queries: Queries, bounds: NDArray[Any], may_answer: NDArray[numpy.bool_]) -> NDArray[numpy.float64]:
-    """The square of the distance of a query's point from the bounds of a table, infinite where the table has no answer."""
+    """The square of the distance of a query's point from the bounds of a table, infinite if the table has no answer."""
     if isinstance(queries, Nearest) or queries.order is None:
         points = queries.columns[:2]
     else:
@@ -153,7 +153,7 @@ def _nearest(reached: NDArray[numpy.float64]) -> NDArray[numpy.bool_]:
 
 
 def _last_scores(count: int, pieces: list[Piece], limit: int) -> NDArray[numpy.float64]:
-    """The score of the last answer to each query, rounded; infinite where there are less than `limit` answers."""
+    """The score of the last answer to each query, rounded; infinite if there are less than `limit` answers."""
     last = numpy.full(count, numpy.inf if limit else -numpy.inf)
     for places, _, scores in pieces:
         answers = numpy.bincount(places, minlength=count)

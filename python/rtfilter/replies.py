@@ -43,7 +43,7 @@ def joined(lines: list[str]) -> bytes:
 
 def cut(text: bytes, lines: list[str], first: int = 1) -> list[Reply]:
     """The reply to each of these lines, of which the first has this number. Lines without one were skipped. Raises Disconnected
-    where a text is no reply."""
+    if a text is no reply."""
     replies: list[Reply] = [None] * len(lines)
     parts = LAST_LINE.split(text)
     try:
@@ -126,6 +126,6 @@ def is_whole(text: bytes | bytearray, last: int) -> bool:
 
 
 def reason(text: bytes | bytearray) -> str:
-    """Why a service closed a connection, where its last line says so."""
+    """Why a service closed a connection, if its last line says so."""
     _, prefix, words = bytes(text).rpartition(b"rtfilter-serve: ")
     return f": {words.decode(errors='replace').strip()}" if prefix else ""

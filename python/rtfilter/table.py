@@ -31,7 +31,7 @@ class Rtfilter(_engine.Table, Closable, BulkCalls):
 
     `table` is the name of a CSV file; rows of (id, min_x, max_x, min_y, max_y) or of these and a layer; an array of shape
     (n, 5) or (n, 6); or a frame, or an array with fields, that has these columns. Raises TableError for a faulty table, OSError
-    for a file that can't be read, TypeError where a number isn't whole, and ValueError for a setting out of range.
+    for a file that can't be read, TypeError if a number isn't whole, and ValueError for a setting out of range.
     """
 
     def __new__(cls, table: Any, *, header: bool = False, fanout: int = 16, max_entries: int = MOST_ENTRIES) -> Self:
@@ -126,7 +126,7 @@ class Rtfilter(_engine.Table, Closable, BulkCalls):
 
     @property
     def bounds(self) -> tuple[int, int, int, int] | None:
-        """The least box around all boxes, as min_x, min_y, max_x, max_y; None where there are none."""
+        """The least box around all boxes, as min_x, min_y, max_x, max_y; None if there are none."""
         boxes, _, bounds = self._info()
         return bounds if boxes else None
 

@@ -31,8 +31,8 @@ class Tables(SingleCalls, BulkCalls):
 
     `members` are tables of this process, or clients of services. Ids have to be distinct over all members, which isn't checked.
     A query goes to the tables whose bounds it overlaps; a client is always queried, since its service may load another table.
-    Any number of threads may query at the same time. Raises ValueError where there are no members, TypeError for other ones.
-    The calls for many queries raise TypeError where a member is a client.
+    Any number of threads may query at the same time. Raises ValueError if there are no members, TypeError for other ones.
+    The calls for many queries raise TypeError if a member is a client.
     """
 
     def __init__(self, members: Iterable[Rtfilter | Client]) -> None:
@@ -55,7 +55,7 @@ class Tables(SingleCalls, BulkCalls):
 
     @property
     def bounds(self) -> Bounds | None:
-        """The least box around all boxes, as min_x, min_y, max_x, max_y; None where there are none. Raises TypeError where a
+        """The least box around all boxes, as min_x, min_y, max_x, max_y; None if there are none. Raises TypeError if a
         member is a client."""
         found = [it.bounds for it in self._tables("bounds") if it.bounds is not None]
         if not found:
@@ -200,7 +200,7 @@ def _merged(tables: list[Rtfilter], queries: "Queries", begin: int) -> "Piece":
 
 
 def _jobs(tables: list[Rtfilter], rows: "list[Rows]") -> "list[tuple[Rtfilter, Rows]]":
-    """The tables to query, each with its queries; the first one where there are none."""
+    """The tables to query, each with its queries; the first one if there are none."""
     return [it for it in zip(tables, rows) if len(it[1])] or [(tables[0], rows[0])]
 
 
@@ -225,7 +225,7 @@ def _run(
         with ThreadPoolExecutor(len(jobs)) as threads:
             try:
                 found = [*threads.map(tried, jobs)]
-            finally:  # (threads go on where a signal has broken off the wait for them)
+            finally:  # (threads go on if a signal has broken off the wait for them)
                 stop.set()
     errors = [it for it in found if isinstance(it, QueryError)]
     if errors:

@@ -23,7 +23,7 @@ class Zones:
     is multiplied by it and rounded, a half upwards; answers are exact for what was rounded so.
 
     A polygon holds the points on its rings, and those from which a ray crosses the rings of one part an odd number of times.
-    Raises ValueError with the place of what is no polygon, and TypeError for a number that isn't whole where there is no scale.
+    Raises ValueError with the place of what is no polygon, and TypeError for a number that isn't whole if there is no scale.
     """
 
     def __init__(self, polygons: Any, *, scale: float | None = None) -> None:

@@ -229,7 +229,7 @@ class Ends(Case):
             self.count(one, two, three)
 
     def test_a_program_that_ends_again_and_again(self) -> None:
-        """The pause before it is started anew grows; a signal ends it."""
+        """The pause before it is restarted grows; a signal ends it."""
         table = Path(self.folder, "table")
         table.write_bytes(BOXES.read_bytes())
         service = self.served(table)

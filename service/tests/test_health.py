@@ -152,7 +152,7 @@ class Health(Case):
             self.assertTrue(0.4 < busy <= time.monotonic() - begun + 0.5, busy)
 
     def test_times_in_the_log(self) -> None:
-        """None where the journal adds them."""
+        """None if the journal adds them."""
         service = self.served()
         lines = service.log_file.read_text().splitlines()
         self.assertTrue(lines and all(map(MOMENT.match, lines)), lines)

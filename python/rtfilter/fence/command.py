@@ -22,7 +22,7 @@ NAME = "rtfilter-fence"
 READ = 1 << 16  # bytes at once
 INPUT, OUTPUT = 0, 1
 MOST = 10**15  # of devices, and of lines
-GO_ON = "; run it again with --resume to go on"  # where the output is a file
+GO_ON = "; run it again with --resume to go on"  # if the output is a file
 
 
 def arguments() -> argparse.Namespace:
@@ -138,7 +138,7 @@ def answer(fence: Fence, number: int) -> None:
 
 
 def read() -> bytes:
-    """Some of the input; nothing at its end. Raises ValueError where that fails."""
+    """Some of the input; nothing at its end. Raises ValueError if that fails."""
     try:
         return os.read(INPUT, READ)
     except OSError as error:
@@ -146,7 +146,7 @@ def read() -> bytes:
 
 
 def write(text: bytes) -> None:
-    """Writes all of a text. Raises ValueError where that fails."""
+    """Writes all of a text. Raises ValueError if that fails."""
     unwritten = memoryview(text)
     try:
         while unwritten:

@@ -13,7 +13,7 @@ class Refused(Exception):
 
 
 class Devices:
-    """What is known of devices, of so many at most."""
+    """The state of devices, up to a maximum number."""
 
     def __init__(self, most: int) -> None:
         self._most = most

@@ -11,7 +11,7 @@ from .zones import Held, NamedZones
 
 
 class Fence:
-    """Zones and devices. `zones` may be assigned anew at any time, by any thread."""
+    """Zones and devices. `zones` may be assigned again at any time, by any thread."""
 
     def __init__(self, zones: NamedZones, devices: Devices, past: Past = Past()) -> None:
         self.zones = zones
@@ -21,7 +21,7 @@ class Fence:
     def events(self, first: int, lines: list[bytes]) -> bytes:
         """The events of lines, in their order, of which the first has this number. Lines that the log answers have none.
 
-        Raises ValueError where one of the lines isn't that of the log.
+        Raises ValueError if one of the lines isn't that of the log.
         """
         positions, refusals = positions_of(first, lines)
         if first <= self._past.next_line:
@@ -41,7 +41,7 @@ class Fence:
         return "".join([text for _, text in found]).encode()
 
     def end(self, last: int) -> None:
-        """Raises ValueError where the input ended with this line, before the last one that the log answers."""
+        """Raises ValueError if the input ended with this line, before the last one that the log answers."""
         if self._past.last is not None and last < self._past.last.line:
             raise ValueError(f"the input ends with line {last}, and the log has line {self._past.last.line}")
 
@@ -57,7 +57,7 @@ class Fence:
         return [it for it in positions if it[0] >= next_line], [it for it in refusals if it.line >= next_line]
 
     def _check(self, lines: range, positions: list[Position], refusals: list[Refusal]) -> None:
-        """Raises ValueError where the last line that the log answers is among these, and says something else there."""
+        """Raises ValueError if the last line that the log answers is among these, and says something else there."""
         last = self._past.last
         if last is None or last.line not in lines:
             return

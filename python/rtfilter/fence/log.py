@@ -1,4 +1,4 @@
-"""The log of a fence, its events of before: where devices are, and from which line of the input it goes on."""
+"""The log of a fence, its earlier events: the zones of each device, and the line of the input from which it goes on."""
 
 import json
 import math
@@ -25,7 +25,7 @@ class Change(NamedTuple):
 
 
 class Event(NamedTuple):
-    """A line of a log: the number of the input's line, its device where it has one, and the change; None for a refusal."""
+    """A line of a log: the number of the input's line, its device if it has one, and the change; None for a refusal."""
 
     line: int
     device: bytes
@@ -49,10 +49,10 @@ class Past(NamedTuple):
 
 
 def resume(file: str, devices: Devices) -> Past:
-    """Puts devices where a log leaves them, and removes its last line from the file where that was cut off.
+    """Puts devices into the zones that a log leaves them in, and removes its last line from the file if that was cut off.
 
-    A file that isn't there is an empty log. Raises OSError, Refused for one device too many, and ValueError where there is no such
-    folder, and where the file has lines of which none is an event. The file is left as it is then.
+    A file that isn't there is an empty log. Raises OSError, Refused for one device too many, and ValueError if there is no such
+    folder, or if the file has lines of which none is an event. The file is left as it is then.
     """
     try:
         log = open(file, "rb")

@@ -25,7 +25,7 @@ tenth of all the time."""
 
 
 class Refusal(NamedTuple):
-    """A line that isn't taken: its number, why, and its device where it has one."""
+    """A line that isn't taken: its number, why, and its device if it has one."""
 
     line: int
     why: str
@@ -57,7 +57,7 @@ def positions_of(first: int, lines: list[bytes]) -> tuple[list[Position], list[R
 
 
 def layers_of(match: "re.Match[bytes]") -> bytes:
-    """The layers of a position, separated by semicolons; nothing where it names none."""
+    """The layers of a position, separated by semicolons; nothing if it names none."""
     return match[6] or b""
 
 

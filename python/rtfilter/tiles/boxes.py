@@ -1,4 +1,4 @@
-"""The boxes of a table: what finds them, and where they lie, with their layers and names."""
+"""The boxes of a table with their layers and names, and the index that finds them."""
 
 import codecs
 import csv
@@ -62,7 +62,7 @@ class Boxes:
 
     @property
     def bounds(self) -> Window:
-        """The least window around all boxes; a point where there is none."""
+        """The smallest window around all boxes; a point if there are none."""
         x1, y1, x2, y2 = self.found.bounds or (0, 0, 0, 0)
         return x1, x2, y1, y2
 
@@ -73,7 +73,7 @@ class Boxes:
 
 def read(files: Files, has_layers: bool) -> Any:
     """A table that `Rtfilter` takes, as a frame. A record without a layer has layer 0."""
-    # (where some box has another layer, some record has a sixth field, as pandas needs it of a column)
+    # (if some box has another layer, some record has a sixth field, as pandas needs it of a column)
     names = FIELDS if has_layers else FIELDS[:5]
     kinds = {name: "f8" if name == "layer" else "i8" for name in names}
     with open(files.table, "rb") as file:
@@ -95,7 +95,7 @@ def find_first_record(file: BinaryIO) -> None:
 
 
 def names_of(file: str | None) -> dict[int, str]:
-    """The names in a CSV file of numbers and names. None where there is no file."""
+    """The names in a CSV file of numbers and names. None if there is no file."""
     if file is None:
         return {}
     with open(file, encoding="utf-8-sig", newline="") as text:

@@ -1,4 +1,4 @@
-"""The command rtfilter-tiles: loads a table, listens, and loads it anew on SIGHUP."""
+"""The command rtfilter-tiles: loads a table, listens, and reloads it on SIGHUP."""
 
 import argparse
 import asyncio
@@ -43,7 +43,7 @@ class Complaints:
 
 
 class AccessLog(logging.handlers.WatchedFileHandler):
-    """A log in a file, which is opened anew where another one stands in its place. A line that can't be written is dropped."""
+    """A log in a file, which is opened again if another file has replaced it. A line that can't be written is dropped."""
 
     def __init__(self, name: str) -> None:
         super().__init__(name, encoding="utf-8", errors="backslashreplace")
@@ -172,7 +172,7 @@ async def keep_loaded(args: argparse.Namespace, server: Server, again: asyncio.E
 
 
 def log_accesses(name: str | None) -> None:
-    """Logs accesses to a file, which is opened anew where another one stands in its place."""
+    """Logs accesses to a file, which is opened again if another file has replaced it."""
     if name is not None:
         handler: logging.Handler = logging.StreamHandler()
         if name != "-":

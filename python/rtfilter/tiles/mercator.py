@@ -23,7 +23,7 @@ def edge(place: int, tiles: int) -> int:
 
 
 def cuts(low: int, high: int, parts: int) -> list[Interval]:
-    """An interval in so many parts, nearly even, that share no coordinate. None is empty: of an interval that has fewer
+    """An interval in a number of parts, nearly equal, that share no coordinate. None is empty: of an interval that has fewer
     coordinates there are as many parts as coordinates, and of none none."""
     length = max(0, high - low + 1)
     parts = min(parts, length)

@@ -51,11 +51,11 @@ class Served:
 
 
 class Server:
-    """Answers requests. `served` may be assigned anew at any time."""
+    """Answers requests. `served` may be assigned again at any time."""
 
     def __init__(self, served: Served, hosts: set[str], origins: set[str], url: str | None, max_age: int) -> None:
         """`hosts` are the names that the header Host may have, in small letters; pages of `origins` may read what is served. `url`
-        is the address of the server, where it isn't that of the Host. Tiles may be kept for `max_age` seconds."""
+        is the address of the server, if it isn't that of the Host. Tiles may be kept for `max_age` seconds."""
         self.loads_failed = 0
         self.connections: Callable[[], int] = lambda: 0
         """The number of open connections: that of aiohttp's server, which is made later."""
@@ -100,7 +100,7 @@ class Server:
             return web.Response(status=503, text="out of memory")
 
     def _check(self, request: web.Request) -> None:
-        """Raises where a request is for another host, or of a page that may not read the reply."""
+        """Raises if a request is for another host, or of a page that may not read the reply."""
         if request.method not in METHODS:
             raise web.HTTPMethodNotAllowed(request.method, METHODS)
         hosts: list[str] = request.headers.getall("Host", [])
@@ -214,7 +214,7 @@ class Server:
 
 
 def reply(request: web.Request, kind: str, body: bytes) -> web.Response:
-    """A body of a kind, packed where the client takes that; status 204 for none."""
+    """A body of a kind, packed if the client takes that; status 204 for none."""
     response = web.Response(status=200 if body else 204, body=body or None)
     if body:
         response.content_type = kind
@@ -231,7 +231,7 @@ def takes_gzip(request: web.Request) -> bool:
 
 
 def host_of(origin: str) -> str | None:
-    """The host and the port of an origin; None where it has none."""
+    """The host and the port of an origin; None if it has none."""
     try:
         return urlsplit(origin).netloc.lower() or None
     except ValueError:

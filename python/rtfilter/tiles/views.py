@@ -12,7 +12,7 @@ from .boxes import MOST_IN_TILE, Boxes
 from .mercator import cells_of, cuts, window_of
 from .mercator import Window as Sides
 
-MOST_IN_VIEW = 3000  # boxes: where a view has more, it shows counts
+MOST_IN_VIEW = 3000  # boxes: a view of more shows counts
 MOST_ANSWERS = 1000
 MOST_CELLS = 2304  # of a view
 TILE_CELLS = 32  # cells of a tile, on each side
