@@ -42,7 +42,7 @@ SHARED = [  # files, each with words that have {} for a number, which is the sam
         ("service/rtfilter.service", "MemoryMax={}G"),
     ],
     [
-        ("README.md", "or fewer than {} if there is an SQLite R*Tree file"), ("docs/faq.md", "fewer than about {} windows per start"),
+        ("README.md", "or fewer than {} if the boxes are in an SQLite R*Tree file"), ("docs/faq.md", "fewer than about {} windows per start"),
         (TABLES, "Up to about {}, an existing SQLite R*Tree file is"),
     ],
     [("docs/service.md", "one line at a time | {} |"), ("docs/scaling.md", "[{} lines a second](service.md#speed)")],

@@ -10,6 +10,7 @@ import time
 import unittest
 from collections.abc import Callable, Iterator
 from pathlib import Path
+from typing import Any
 
 import pages
 
@@ -80,13 +81,14 @@ def seconds_of(process: int) -> float:
     return (int(fields[11]) + int(fields[12])) / os.sysconf("SC_CLK_TCK")
 
 
-def until(is_so: Callable[[], object], what: str = "what is waited for") -> None:
-    """Waits until something is so."""
+def until(is_so: Callable[[], Any], what: str = "what is waited for") -> Any:
+    """Waits until something is so. Returns what the call returns then."""
     end = time.monotonic() + LONGEST
-    while not is_so():
+    while not (value := is_so()):
         if time.monotonic() > end:
             raise TimeoutError(f"{what} doesn't come")
         time.sleep(0.005)
+    return value
 
 
 def opened_for_writing(pipe: Path) -> int:

@@ -11,7 +11,7 @@ LONGEST_DEVICE = 64  # bytes
 
 NAME = rb'(?:"([^"\n]+)"|([^"#,\n][^",\n]*))'  # in quotes, or not and no comment
 NUMBER = rb"(-?(?:0|[1-9][0-9]*)(?:\.[0-9]+)?(?:[eE][-+]?[0-9]+)?)"  # as in JSON
-LINE = re.compile(rb",".join([NAME, NUMBER, NUMBER, NUMBER]) + rb'(?:,([^",\n]*))?\r?')
+LINE = re.compile(rb",".join([NAME, NUMBER, NUMBER, NUMBER]) + rb'(?:,([^",\n]*?))?\r?')
 FIRST_FIELD = re.compile(rb'"[^"]*"(?=,|$)|[^,]*')
 FORMS = re.compile(NAME), re.compile(NUMBER)
 
@@ -42,7 +42,8 @@ def positions_of(first: int, lines: list[bytes]) -> tuple[list[Position], list[R
     for line, text in enumerate(lines, first):
         match = LINE.fullmatch(text)
         if match is None or len(text) > LONGEST_LINE:
-            if text.strip()[:1] not in b"#":
+            # (by no more than `answer` keeps of a line that is too long)
+            if text[: LONGEST_LINE + 1].strip()[:1] not in b"#":
                 refusals.append(Refusal(line, fault_of(text)))
             continue
         quoted, plain, longitude, latitude, time, _ = match.groups()

@@ -32,14 +32,13 @@ class Files(NamedTuple):
 
 
 class Boxes:
-    """The boxes of a table. Raises OSError, TableError for a faulty table, and ValueError for names that can't be used."""
+    """The boxes of a table, which is read twice. Raises OSError, TableError for a faulty table, and ValueError for names that can't be
+    used."""
 
     def __init__(self, files: Files) -> None:
         self.found = Rtfilter(files.table, header=files.has_header)
         """What answers queries."""
         frame = read(files, self.found.count(All(), on=range(1, LAYERS)) > 0)
-        if len(frame) != len(self.found):
-            raise ValueError(f"{files.table}: the table has changed while it was read: load it again")
         frame = frame.sort_values("id", kind="stable")
         self._ids = frame["id"].to_numpy()
         self._boxes = numpy.ascontiguousarray(frame[FIELDS[1:]].to_numpy("i8"))

@@ -147,15 +147,27 @@ async def listen(runner: web.AppRunner, args: argparse.Namespace) -> None:
 
 
 def loaded(args: argparse.Namespace, generation: int = 1) -> Served:
-    """What the files hold, and a tag of all that replies are made of: these files and the server's own."""
-    made_of = hashlib.blake2b(f"{args.header} {args.url}".encode(), digest_size=8)
-    for name in (args.table, args.names, args.layers, *sorted(Path(__file__).parent.glob("*.*"))):
-        if name is not None:
-            with open(name, "rb") as file:
-                if stat.S_ISFIFO(os.fstat(file.fileno()).st_mode):
-                    raise ValueError(f"{name}: a pipe can't be read twice: write it to a file first")
-                made_of.update(hashlib.file_digest(file, "blake2b").digest())
-    return Served(Views(Boxes(Files(args.table, args.header, args.names, args.layers))), made_of.hexdigest(), generation)
+    """What the files hold, and a tag of all that replies are made of: these files and the server's own. Raises ValueError if one of
+    the files changes meanwhile: each is read more than once."""
+    before = {name: state_of(name) for name in (args.table, args.names, args.layers) if name is not None}
+    options = args.header, args.url, args.names is None, args.layers is None
+    made_of = hashlib.blake2b(f"{options}".encode(), digest_size=8)
+    for name in (*before, *sorted(Path(__file__).parent.glob("*.*"))):
+        with open(name, "rb") as file:
+            if stat.S_ISFIFO(os.fstat(file.fileno()).st_mode):
+                raise ValueError(f"{name}: a pipe can't be read twice: write it to a file first")
+            made_of.update(hashlib.file_digest(file, "blake2b").digest())
+    views = Views(Boxes(Files(args.table, args.header, args.names, args.layers)))
+    for name, state in before.items():
+        if state_of(name) != state:
+            raise ValueError(f"{name}: the file has changed while it was read: load it again")
+    return Served(views, made_of.hexdigest(), generation)
+
+
+def state_of(file: str) -> tuple[int, int]:
+    """What changes if a file is written, or if another one takes its place."""
+    found = os.stat(file)
+    return found.st_ino, found.st_mtime_ns
 
 
 async def keep_loaded(args: argparse.Namespace, server: Server, again: asyncio.Event) -> None:

@@ -79,9 +79,10 @@ def test_zones_that_are_entered_and_left(zones: Path) -> None:
     assert events[0]["name"] == "Park"
 
 
-def test_layers(zones: Path) -> None:
+@pytest.mark.parametrize("end", [b"\n", b"\r\n"])
+def test_layers(end: bytes, zones: Path) -> None:
     """Those of a position, else those of the command."""
-    lines = b"a,9,1,1\nb,9,1,1,quiet\nc,9,1,1,loud;quiet\nd,9,1,1,loud\nb,9,1,2,\n"
+    lines = b"a,9,1,1\nb,9,1,1,quiet\nc,9,1,1,loud;quiet\nd,9,1,1,loud\nb,9,1,2,\n".replace(b"\n", end)
     assert brief(run(zones, lines)) == [
         ("a", "enter", "park"), ("a", "enter", 7), ("b", "enter", 7), ("c", "enter", 7), ("b", "enter", "park"),
     ]  # fmt: skip
@@ -224,7 +225,7 @@ def test_a_million_devices() -> None:
 @pytest.mark.parametrize("size", [1, 2, 3, 7, 1000, 4095, 4096, 4097])
 def test_reads_of_any_length(size: int, zones: Path, monkeypatch: pytest.MonkeyPatch) -> None:
     """Lines are the same however reads cut them, the last one without an end too."""
-    text = b"a,1,1,1\n\nx\n" + b"y" * 9000 + b"\n#\nb,1,1,2\r\na,50,1,3"
+    text = b"a,1,1,1\n\nx\n" + b"y" * 9000 + b"\n#\n" + b" " * 5000 + b"x\nb,1,1,2\r\na,50,1,3"
     pieces, written = [text[at : at + size] for at in range(0, len(text), size)], bytearray()
     loaded = NamedZones(str(zones), "layer", "")
     with monkeypatch.context() as patched:

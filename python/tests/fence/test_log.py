@@ -90,10 +90,8 @@ def start(
     """A fence that appends to the log, a file of at most so many bytes: its status, and what it reports."""
     words = [*(COMMAND[:2] if before else COMMAND), *before, *options, "--devices", str(DEVICES), str(zones)]
     limited = ["prlimit", f"--fsize={limit}", *words] if limit is not None else words
-    input = log.with_suffix(".input")
-    input.write_bytes(positions)
-    with open(input, "rb") as lines, open(log, "ab") as file:
-        done = subprocess.run(limited, stdin=lines, stdout=file, stderr=subprocess.PIPE, timeout=LONGEST, env=environment())
+    with open(log, "ab") as file:
+        done = subprocess.run(limited, input=positions, stdout=file, stderr=subprocess.PIPE, timeout=LONGEST, env=environment())
     return done.returncode, done.stderr.decode()
 
 

@@ -12,7 +12,8 @@ import time
 from pathlib import Path
 from typing import Any
 
-LONGEST = 20.0  # seconds that an answer may take
+from support import LONGEST, until
+
 FLAGS = [
     "--headless=new", "--disable-gpu", "--disable-dev-shm-usage", "--no-first-run", "--remote-debugging-pipe",
     "--disable-background-networking", "--disable-component-update", "--disable-sync",
@@ -95,12 +96,7 @@ class Chromium:
 
     def until(self, expression: str) -> Any:
         """The value of an expression once it is true."""
-        end = time.monotonic() + LONGEST
-        while not (value := self.value(expression)):
-            if time.monotonic() > end:
-                raise TimeoutError(expression)
-            time.sleep(0.02)
-        return value
+        return until(lambda: self.value(expression), expression)
 
     def open(self, address: str) -> None:
         self.call("Page.navigate", url=address)

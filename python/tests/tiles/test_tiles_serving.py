@@ -1,5 +1,6 @@
 """Descriptions of tiles, caches and compression, pages of other origins, loads, ends and messages."""
 
+import argparse
 import contextlib
 import csv
 import functools
@@ -20,13 +21,15 @@ from collections.abc import Iterator
 from http.client import HTTPConnection, HTTPResponse
 from http.server import SimpleHTTPRequestHandler, ThreadingHTTPServer
 from pathlib import Path
+from unittest import mock
 
 from aiohttp.test_utils import TestClient, TestServer
 from chromium import Chromium
 from support import LONGEST, ROOT, environment, found, until, wants
 from tiles_support import BOXES, COMMAND, Mapped, Server, large_map
 
-from rtfilter.tiles import server as serving
+from rtfilter.tiles import command, server as serving
+from rtfilter.tiles.boxes import Boxes, Files
 from rtfilter.tiles.mercator import HALF, window_of
 from rtfilter.tiles.views import Views
 
@@ -39,19 +42,7 @@ MORE_MEMORY = 20_000_000  # bytes: enough for a thread, and for no million of bo
 MOST_SECONDS = 0.02  # of processor time for a tile of some 100 boxes, which takes a tenth of that
 
 
-class Serving(Mapped):
-    def response(self, target: str, server: Server | None = None, method: str = "GET", **headers: str) -> tuple[HTTPResponse, bytes]:
-        """The reply to a request with headers, in whose names `_` stands for `-`, and its body."""
-        connection = (server or self.server).connected()
-        try:
-            connection.request(method, target, headers={name.replace("_", "-"): it for name, it in headers.items()})
-            reply = connection.getresponse()
-            return reply, reply.read()
-        finally:
-            connection.close()
-
-
-class Descriptions(Serving):
+class Descriptions(Mapped):
     def test_tile_json(self) -> None:
         tiles = self.json("/tiles.json")
         self.assertEqual(tiles["tilejson"], "3.0.0")
@@ -71,11 +62,11 @@ class Descriptions(Serving):
     def test_addresses_as_others_have_them(self) -> None:
         for url in ("https://example.org/t/", "https://example.org/t"):
             with Server(self.table, "--host", "tiles.example.org", "--url", url) as server:
-                reply, body = self.response("/tiles.json", server, Host="tiles.example.org")
+                reply, body = server.get("/tiles.json", Host="tiles.example.org")
                 self.assertEqual(json.loads(body)["tiles"], ["https://example.org/t/{z}/{x}/{y}.pbf"])
-                _, body = self.response("/style.json", server)
+                _, body = server.get("/style.json")
                 self.assertEqual(json.loads(body)["sources"]["boxes"]["url"], "https://example.org/t/tiles.json")
-        reply, body = self.response("/tiles.json", Host=f"LOCALHOST:{self.server.port}")
+        reply, body = self.server.get("/tiles.json", Host=f"LOCALHOST:{self.server.port}")
         self.assertEqual(json.loads(body)["tiles"], [f"http://localhost:{self.server.port}/{{z}}/{{x}}/{{y}}.pbf"])
 
     def test_gdal_reads_tiles_by_their_description(self) -> None:
@@ -117,11 +108,11 @@ class Descriptions(Serving):
         self.assertEqual(self.json("/health"), {"boxes": BOXES})
 
 
-class Caches(Serving):
+class Caches(Mapped):
     def test_head(self) -> None:
         """It has the status and the headers of GET, and no body, and the connection goes on; also where the client has the reply."""
         connection = self.connected()
-        tag = self.response(TILE)[0].headers["ETag"].removeprefix("W/")
+        tag = self.server.get(TILE)[0].headers["ETag"].removeprefix("W/")
         packed = [(target, {"Accept-Encoding": "gzip"}) for target in (TILE, EMPTY, "/", "/tiles.json", "/about", "/ask?q=count+all", "/nothing", "/view")]
         for target, headers in (*packed, (TILE, {"If-None-Match": f'"x", {tag}, "y"'}), (TILE, {"If-None-Match": '"x"'})):
             heads = []
@@ -136,20 +127,20 @@ class Caches(Serving):
         """What whoever asks has already isn't sent again, until the table is another one."""
         for target in (TILE, EMPTY, "/", "/page.js", "/tiles.json", "/style.json", "/about"):
             for encoding in ("gzip", "identity"):
-                reply, body = self.response(target, Accept_Encoding=encoding)
+                reply, body = self.server.get(target, Accept_Encoding=encoding)
                 tag = reply.headers["ETag"].removeprefix("W/")
                 for known in (tag, f"W/{tag}", f'"x", {tag}', "*", f'{tag} ,"x"'):
-                    again, nothing = self.response(target, Accept_Encoding=encoding, If_None_Match=known)
+                    again, nothing = self.server.get(target, Accept_Encoding=encoding, If_None_Match=known)
                     self.assertEqual((again.status, nothing, again.headers["ETag"]), (304, b"", f"W/{tag}"), known)
                     self.assertEqual(again.headers["Cache-Control"], reply.headers["Cache-Control"])
                 for other in ('"x"', tag.replace('"', ""), tag[:-1], "", '"*"', '"x", *'):
-                    again, body_again = self.response(target, Accept_Encoding=encoding, If_None_Match=other)
+                    again, body_again = self.server.get(target, Accept_Encoding=encoding, If_None_Match=other)
                     self.assertEqual((again.status, body_again), (reply.status, body), other)
         for target in ("/view?x1=0&x2=9&y1=0&y2=9", "/ask?q=count+all", "/health", "/nothing"):
-            reply, _ = self.response(target, If_None_Match="*")
+            reply, _ = self.server.get(target, If_None_Match="*")
             self.assertIsNone(reply.headers["ETag"])
             self.assertEqual(reply.headers["Cache-Control"], "no-cache")
-        self.assertEqual(self.response("/5/99/0.pbf", If_None_Match="*")[0].status, 404)
+        self.assertEqual(self.server.get("/5/99/0.pbf", If_None_Match="*")[0].status, 404)
         lines = f'GET / HTTP/1.1\r\nHost: localhost\r\nIf-None-Match: "x"\r\nIf-None-Match: {tag}\r\n\r\n'
         self.assertEqual(self.server.reply_to(lines.encode())[0].status, 304)
 
@@ -161,32 +152,32 @@ class Caches(Serving):
         other.write_text("1,0,1,0,2\n")
         names.write_text("1,x\n")
         tags = []
-        for words in ([one], [same], [other], [one, "--names", str(names)], [one, "--url", "https://example.org/"]):
+        for words in ([one], [same], [other], *([one, option, str(names)] for option in ("--names", "--layers")), [one, "--url", "https://example.org/"]):
             with Server(*words) as server:
-                tags.append(self.response("/0/0/0.pbf", server)[0].headers["ETag"])
+                tags.append(server.get("/0/0/0.pbf")[0].headers["ETag"])
         self.assertEqual(tags[0], tags[1])
-        self.assertEqual(len(set(tags)), 4)
+        self.assertEqual(len(set(tags)), 5)
 
     def test_ages(self) -> None:
-        self.assertEqual(self.response(TILE)[0].headers["Cache-Control"], "public, max-age=60")
-        self.assertEqual(self.response(EMPTY)[0].headers["Cache-Control"], "public, max-age=60")
-        self.assertEqual(self.response("/tiles.json")[0].headers["Cache-Control"], "no-cache")
+        self.assertEqual(self.server.get(TILE)[0].headers["Cache-Control"], "public, max-age=60")
+        self.assertEqual(self.server.get(EMPTY)[0].headers["Cache-Control"], "public, max-age=60")
+        self.assertEqual(self.server.get("/tiles.json")[0].headers["Cache-Control"], "no-cache")
         for age, control in (("0", "no-cache"), ("86400", "public, max-age=86400")):
             with Server(self.table, "--max-age", age) as server:
-                self.assertEqual(self.response(TILE, server)[0].headers["Cache-Control"], control)
+                self.assertEqual(server.get(TILE)[0].headers["Cache-Control"], control)
 
     def test_gzip(self) -> None:
         """The same bytes, for whoever asks for it, where they are some."""
         for target in (TILE, "/", "/page.js", "/tiles.json", "/view?x1=-9000000&x2=9000000&y1=-9000000&y2=9000000"):
-            plain, body = self.response(target)
-            short, packed = self.response(target, Accept_Encoding="br, gzip;q=0.5")
+            plain, body = self.server.get(target)
+            short, packed = self.server.get(target, Accept_Encoding="br, gzip;q=0.5")
             self.assertEqual((plain.headers["Content-Encoding"], short.headers["Content-Encoding"]), (None, "gzip"))
             self.assertEqual((gzip.decompress(packed), packed[4:8]), (body, bytes(4)))  # which would be the time
             self.assertLess(len(packed), len(body))
             self.assertEqual({plain.headers["Vary"], short.headers["Vary"]}, {"Accept-Encoding"})
             self.assertEqual(plain.headers["ETag"], short.headers["ETag"])
         for target in (EMPTY, "/health", "/nothing"):
-            self.assertIsNone(self.response(target, Accept_Encoding="gzip")[0].headers["Content-Encoding"], target)
+            self.assertIsNone(self.server.get(target, Accept_Encoding="gzip")[0].headers["Content-Encoding"], target)
 
     def test_encodings(self) -> None:
         """gzip by its name, on any line, where its weight isn't 0."""
@@ -204,7 +195,7 @@ class Caches(Serving):
             self.assertEqual(reply.headers["Content-Encoding"], encoding, lines)
 
 
-class Origins(Serving):
+class Origins(Mapped):
     def test_pages_that_may_read(self) -> None:
         """Those of this server, and those that options name. A client that is no page may."""
         there, elsewhere = "https://map.example.org", "http://example.org"
@@ -217,18 +208,18 @@ class Origins(Serving):
             with Server(self.table, "--port", "0", *options) as server:
                 own[0] = f"http://127.0.0.1:{server.port}"
                 for origin in (*own, *allowed):
-                    reply, _ = self.response(TILE, server, Origin=origin)
+                    reply, _ = server.get(TILE, Origin=origin)
                     answered = origin if origin in allowed else None
                     self.assertEqual((reply.status, reply.headers["Access-Control-Allow-Origin"]), (200, answered), origin)
                 for origin in refused:
-                    reply, _ = self.response(TILE, server, Origin=origin)
+                    reply, _ = server.get(TILE, Origin=origin)
                     self.assertEqual((reply.status, reply.headers["Access-Control-Allow-Origin"]), (403, None), origin)
-                self.assertEqual(self.response(TILE, server)[0].status, 200)
+                self.assertEqual(server.get(TILE)[0].status, 200)
                 self.assertEqual(server.reply_to(b"<x> y z\r\n\r\n")[0].status, 400)
-                self.assertEqual("Origin" in self.response(TILE, server)[0].headers["Vary"], bool(options))
+                self.assertEqual("Origin" in server.get(TILE)[0].headers["Vary"], bool(options))
         with Server(self.table, "--origin", "*") as server:
             for origin in (there, "null"):
-                self.assertEqual(self.response(TILE, server, Origin=origin)[0].headers["Access-Control-Allow-Origin"], "*")
+                self.assertEqual(server.get(TILE, Origin=origin)[0].headers["Access-Control-Allow-Origin"], "*")
 
     def test_a_page_of_another_origin(self) -> None:
         """In a browser it reads tiles where it may, and else nothing."""
@@ -321,6 +312,17 @@ class Reloads(unittest.TestCase):
                 server.process.send_signal(signal.SIGHUP)
                 until(lambda: is_read(server.process.pid, self.table))
                 self.assertEqual(server.end(number), (0, ""))
+
+    def test_a_table_that_changes_while_it_is_read(self) -> None:
+        """It is refused: boxes would be shown elsewhere than they are found, or with the tag of others."""
+        def late(files: Files) -> Boxes:
+            self.write(5)
+            return Boxes(files)
+
+        args = argparse.Namespace(table=str(self.table), header=False, names=None, layers=None, url=None)
+        with mock.patch.object(command, "Boxes", late), self.assertRaises(ValueError) as raised:
+            command.loaded(args)
+        self.assertEqual(str(raised.exception), f"{self.table}: the file has changed while it was read: load it again")
 
     def test_a_table_from_a_pipe(self) -> None:
         """It can't be read twice, and is refused."""
@@ -454,7 +456,7 @@ def metric(server: Server, name: str) -> float:
     return float(found)
 
 
-class Many(Serving):
+class Many(Mapped):
     def test_many_at_once(self) -> None:
         """Each reply is that to one client alone."""
         targets = [TILE, "/ask?q=nearest+3+5+5", "/about", *(f"/10/{x}/{y}.pbf" for x in range(510, 514) for y in range(510, 514))]

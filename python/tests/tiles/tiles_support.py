@@ -1,6 +1,7 @@
 """What the tests of the map share: the program, a map, a server, and what a process has cost."""
 
 import atexit
+import csv
 import functools
 import json
 import shutil
@@ -22,16 +23,23 @@ COMMAND = [sys.executable, "-B", "-m", "rtfilter.tiles"]
 HOSTILE_NAME = '<img src=x onerror="throw 1"><script>throw 2</script>'
 HOSTILE_LAYER = "<b>buildings</b>"
 
+
 def make_map(folder: Path, boxes: int, seed: int = 1) -> None:
     words = [sys.executable, "-B", "-m", "rtfilter.tiles.make_map", folder, "--boxes", boxes, "--seed", seed]
     subprocess.run([*map(str, words)], check=True, timeout=LONGEST, env=environment(), stderr=subprocess.PIPE, text=True)
 
 
+def kept_folder() -> Path:
+    """A folder that is removed after all tests."""
+    folder = Path(tempfile.mkdtemp())
+    atexit.register(shutil.rmtree, folder)
+    return folder
+
+
 @functools.cache
 def large_map() -> Path:
     """The folder of a map of 100,000 boxes, which is made once."""
-    folder = Path(tempfile.mkdtemp())
-    atexit.register(shutil.rmtree, folder)
+    folder = kept_folder()
     make_map(folder, 100_000)
     return folder
 
@@ -74,11 +82,11 @@ class Server:
     def connected(self) -> HTTPConnection:
         return HTTPConnection("127.0.0.1", self.port, timeout=LONGEST)
 
-    def get(self, target: str) -> tuple[HTTPResponse, bytes]:
-        """The reply to one request, and its body."""
+    def get(self, target: str, **headers: str) -> tuple[HTTPResponse, bytes]:
+        """The reply to a request with headers, in whose names `_` stands for `-`, and its body."""
         connection = self.connected()
         try:
-            connection.request("GET", target)
+            connection.request("GET", target, headers={name.replace("_", "-"): it for name, it in headers.items()})
             reply = connection.getresponse()
             return reply, reply.read()
         finally:
@@ -113,16 +121,20 @@ class Server:
             self.end()
 
 
-def hostile_map(folder: Path) -> list[str]:
-    """A map whose first town, and whose last layer, have names that look like markup; the options that name them."""
+@functools.cache
+def hostile_map() -> tuple[Path, Server]:
+    """The table and the server of a map whose first town, and whose last layer, have names that look like markup. They are made once."""
+    folder = kept_folder()
     make_map(folder, BOXES)
-    for name, line in ("names.csv", 1), ("layers.csv", 6):
-        lines = (folder / name).read_text().splitlines()
-        number = lines[line - 1].partition(",")[0]
-        text = (HOSTILE_NAME if line == 1 else HOSTILE_LAYER).replace('"', '""')
-        lines[line - 1] = f'{number},"{text}"'
-        (folder / name).write_text("\n".join(lines) + "\n")
-    return ["--names", str(folder / "names.csv"), "--layers", str(folder / "layers.csv")]
+    for name, line, text in ("names.csv", 0, HOSTILE_NAME), ("layers.csv", 5, HOSTILE_LAYER):
+        with open(folder / name, newline="", encoding="utf-8") as file:
+            rows = [*csv.reader(file)]
+        rows[line][1] = text
+        with open(folder / name, "w", newline="", encoding="utf-8") as file:
+            csv.writer(file).writerows(rows)
+    server = Server(folder / "boxes.csv", "--names", str(folder / "names.csv"), "--layers", str(folder / "layers.csv"))
+    atexit.register(server.end)
+    return folder / "boxes.csv", server
 
 
 class Mapped(unittest.TestCase):
@@ -133,10 +145,7 @@ class Mapped(unittest.TestCase):
 
     @classmethod
     def setUpClass(cls) -> None:
-        folder = Path(cls.enterClassContext(tempfile.TemporaryDirectory()))
-        options = hostile_map(folder)
-        cls.table = folder / "boxes.csv"
-        cls.server = cls.enterClassContext(Server(cls.table, *options))
+        cls.table, cls.server = hostile_map()
 
     def connected(self) -> HTTPConnection:
         """A connection that is closed at the end of the test."""
