@@ -79,8 +79,8 @@ def service(program: Path, table: Path, folder: Path) -> Iterator[tuple[int, str
     words = [ROOT / "service/serve.py", "--program", program, "--unix", path, table]
     with subprocess.Popen([*map(str, words)], stderr=subprocess.PIPE, text=True) as process:
         assert process.stderr is not None
-        while "ready" not in process.stderr.readline():
-            pass
+        if not any("ready" in line for line in process.stderr):
+            sys.exit("the service has ended before it was ready")
         try:
             yield process.pid, path
         finally:

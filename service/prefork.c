@@ -65,10 +65,8 @@ enum { PAGE = 4096 };
 struct counts {
     _Atomic uint64_t lines, nanoseconds;
 };
-static struct counts of_none; /* these two stand for a file */
-static _Atomic uint64_t never;
-static struct counts *counts = &of_none;
-static const _Atomic uint64_t *is_ending = &never;
+static struct counts *counts, of_none; /* which aren't reported */
+static const _Atomic uint64_t *is_ending;
 
 static int is_given, is_confining;
 static sigset_t no_signals, of_children;
@@ -220,11 +218,10 @@ static void serve(void)
 {
     sigaddset(&of_children, SIGCHLD);
     struct pollfd polled[] = { { CONTROL, POLLIN, 0 }, { signalfd(-1, &of_children, SFD_CLOEXEC), POLLIN, 0 } };
-    const char *file = getenv("RTFILTER_COMMON");
-    if (file) {
-        counts = mmap(NULL, PAGE, PROT_READ | PROT_WRITE, MAP_SHARED, atoi(file), 0);
-        is_ending = mmap(NULL, PAGE, PROT_READ, MAP_SHARED, atoi(file), PAGE);
-    }
+    const char *named = getenv("RTFILTER_COMMON");
+    int file = named ? atoi(named) : NONE;
+    counts = mmap(NULL, PAGE, PROT_READ | PROT_WRITE, MAP_SHARED, file, 0);
+    is_ending = mmap(NULL, PAGE, PROT_READ, MAP_SHARED, file, PAGE);
     if (counts == MAP_FAILED || is_ending == MAP_FAILED || polled[1].fd < 0 || sigprocmask(SIG_BLOCK, &of_children, NULL) ||
         dup2(LOG, STDERR_FILENO) < 0)
         _exit(NOT_BEGUN);

@@ -4,7 +4,6 @@ The head of `prefork.c` has the rules.
 """
 
 import contextlib
-import fcntl
 import mmap
 import os
 import shutil
@@ -22,7 +21,7 @@ BEGUN = -1  # in place of a status
 NUMBER = struct.Struct("Q")
 COUNTS = struct.Struct("QQ")  # lines that were answered, and the nanoseconds that this took
 PAGE = 4096
-FIRST_FREE = 3  # descriptor: those below are standard files, even if they are closed here
+LOG = 2  # the descriptor of standard error
 
 
 def library_of(program: "str | os.PathLike[str]") -> Path | None:
@@ -69,23 +68,13 @@ def give(control: socket.socket, connection: socket.socket) -> None:
     socket.send_fds(control, [b"."], [connection.fileno()])
 
 
-def pair(kind: int = socket.SOCK_STREAM) -> tuple[socket.socket, socket.socket]:
-    """Two sockets that are connected, and wait, whatever `socket.setdefaulttimeout` was given."""
-    ends = socket.socketpair(socket.AF_UNIX, kind)
-    for end in ends:
-        end.setblocking(True)
-    return ends
-
-
-def start(command: Sequence[str], library: Path, errors: int, log: int, common: Common | None = None) -> Started:
+def start(command: Sequence[str], library: Path, errors: int, common: Common) -> Started:
     """Starts a program, and doesn't wait for it. Raises `OSError` if it can't be started.
 
-    `errors` is the descriptor of its standard error until it serves, and `log` that from then on.
+    `errors` is the descriptor of its standard error until it serves. From then on that is this process's.
     """
-    more = {"RTFILTER_COMMON": str(common.file)} if common else {}
-    passed = [common.file] if common else []
-    control, its_control = pair(socket.SOCK_SEQPACKET)
-    first, its_first = pair()
+    control, its_control = socket.socketpair(socket.AF_UNIX, socket.SOCK_SEQPACKET)
+    first, its_first = socket.socketpair()
     with contextlib.ExitStack() as kept, its_control, its_first:
         kept.enter_context(control)
         kept.enter_context(first)
@@ -93,12 +82,13 @@ def start(command: Sequence[str], library: Path, errors: int, log: int, common: 
         first.shutdown(socket.SHUT_WR)
         control.setblocking(False)
         give(control, its_first)
-        with open(library) as file, open(fcntl.fcntl(file, fcntl.F_DUPFD_CLOEXEC, FIRST_FREE)) as preloaded:
+        with open(library) as preloaded:
             # By its descriptor: a path in this list may have neither spaces nor colons.
             paths = f"/proc/self/fd/{preloaded.fileno()} {os.environ.get('LD_PRELOAD', '')}"
             process = subprocess.Popen(
-                command, bufsize=0, stdin=its_control.fileno(), stdout=log, stderr=errors,
-                pass_fds=[preloaded.fileno(), *passed], process_group=0, env={**os.environ, "LD_PRELOAD": paths, **more},
+                command, bufsize=0, stdin=its_control.fileno(), stdout=LOG, stderr=errors,
+                pass_fds=[preloaded.fileno(), common.file], process_group=0,
+                env={**os.environ, "LD_PRELOAD": paths, "RTFILTER_COMMON": str(common.file)},
             )  # fmt: skip
         kept.pop_all()
     return Started(process, control, first)

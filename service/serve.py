@@ -27,7 +27,7 @@ from service import NO_SERVICE, SIGNALS, Service, log, text_of
 
 VERSION = "0.4.0"
 LOOPBACK = "127.0.0.1"
-MOST_CONNECTIONS = 1 << 20  # as prefork.c has it
+MOST_CONNECTIONS = 1 << 20
 MOST_BOXES = 1 << 24  # as the program has it
 LONGEST = 1e8  # seconds, three years
 

@@ -31,12 +31,9 @@ NO_SERVICE = 1
 SIGNALS = signal.SIGHUP, signal.SIGTERM, signal.SIGINT
 UNREADABLE = 4  # the status of a connection that couldn't be read, or was silent for too long
 NAME = "rtfilter-serve"  # how a line begins that is no reply
-MORE_BOXES = "too many entries", "; docs/scaling.md says what holds more boxes"  # a fault of a table, and what helps
+TOO_MANY, NOT_OPENED = "too many entries", "cannot open table"  # how the program says that
 
-NOT_OPENED = "cannot open table"  # how the program says that
-
-# Of a program, with descriptors for what it writes of its load and later.
-Start = Callable[[int, int, prefork.Common], prefork.Started]
+Start = Callable[[int, prefork.Common], prefork.Started]  # of a program, with a descriptor for what it writes of its load
 End = asyncio.Future[int | None]  # the status of a connection's process, or None if it wasn't begun
 
 
@@ -224,7 +221,7 @@ class Service:
         reply = b""
         with open(os.memfd_create("rtfilter-errors"), "rb") as errors:
             try:
-                table = Table(self._start(errors.fileno(), 2, self._common))
+                table = Table(self._start(errors.fileno(), self._common))
             except OSError as error:
                 raise ChildProcessError(f"the program can't be started: {text_of(error)}") from None
             asyncio.get_running_loop().add_reader(table.control, self._read_reports, table)
@@ -238,18 +235,24 @@ class Service:
                 self._counts["table_generation"] += 1
                 return self._switch_to(table, what)
             await self._end(table)
-            fault = " ".join(os.pread(errors.fileno(), LONGEST_ERROR, 0).decode(errors="replace").split())
-        if " table" in fault:  # else it is about the options
-            fault = f"{self._args.table}: {fault.removeprefix('rtfilter: ')}"
-        fault += MORE_BOXES[1] * (MORE_BOXES[0] in fault)
-        fault += reason(self._args.table) if fault.endswith(NOT_OPENED) else ""
+            said = os.pread(errors.fileno(), LONGEST_ERROR, 0).decode(errors="replace")
         self._status = max(table.process.returncode, NO_SERVICE)
         if not is_over:
-            fault = f"{self._args.table}: not loaded in {self._args.load_timeout:g} seconds"
-        elif status := table.first_end.result():
+            raise ChildProcessError(f"{self._args.table}: not loaded in {self._args.load_timeout:g} seconds")
+        raise ChildProcessError(self._fault(table, " ".join(said.split())))
+
+    def _fault(self, table: Table, said: str) -> str:
+        """Why a table isn't loaded whose program wrote this, and has ended."""
+        if status := table.first_end.result():
             why = os.strerror(-status) if status < 0 else f"status {os.waitstatus_to_exitcode(status)}"
-            fault = f"it can't serve a connection: {why}"
-        raise ChildProcessError(fault or f"the program has ended, with status {table.process.returncode}")
+            return f"it can't serve a connection: {why}"
+        if " table" in said:  # else it is about the options
+            said = f"{self._args.table}: {said.removeprefix('rtfilter: ')}"
+        if TOO_MANY in said:
+            said += "; docs/scaling.md says what holds more boxes"
+        if said.endswith(NOT_OPENED):
+            said += reason(self._args.table)
+        return said or f"the program has ended, with status {table.process.returncode}"
 
     def _switch_to(self, table: Table, what: str) -> None:
         """Gives new connections to a table from now on. The one before keeps its own."""

@@ -15,11 +15,11 @@ import time
 import unittest
 from collections.abc import Iterable, Iterator
 from pathlib import Path
-from typing import Any
+from typing import Any, Self
 
 import random_runs
 from prefork import library_of
-from support import DATA, PROGRAM, ROOT, found, until, wants
+from support import DATA, LONGEST, PROGRAM, ROOT, found, until, wants
 
 SERVICE = ROOT / "service/serve.py"
 BOXES = DATA / "boxes.csv"
@@ -29,7 +29,6 @@ TRIES = "-include", Path(__file__).with_name("tries.h")
 SYSTEM_PYTHON = "/usr/bin/python3"  # which other users may run too
 MOMENT = re.compile(r"^\d{4}-\d\d-\d\dT\d\d:\d\d:\d\dZ ", re.MULTILINE)  # at which a line was logged
 HTTP = r"^HTTP/1\.0 (\d{3}) [A-Za-z ]+\r\nContent-Type: text/plain; version=0\.0\.4; charset=utf-8\r\nContent-Length: (\d+)\r\n\r\n(.*)$"
-LONG = 20.0  # seconds after which what is waited for doesn't come
 
 
 def state_of(process: int) -> tuple[str, int]:
@@ -73,29 +72,37 @@ def put_library(folder: Path) -> None:
     (folder / library.name).symlink_to(library)
 
 
-class Served:
-    """The service over a table, on a Unix socket in a folder. To be used in a `with` statement, which ends it."""
+def copied(folder: Path) -> Path:
+    """A copy of the program, with the library beside it."""
+    put_library(folder)
+    return Path(shutil.copy(PROGRAM, folder))
 
-    def __init__(
-        self, folder: str, table: Path, *words: str, before: Iterable[str] = (), is_ready: bool = True,
-        program: str = PROGRAM, python: str = sys.executable, **options: Any,
-    ) -> None:
-        """`before` are words of a command that runs it. Waits until the table is loaded, unless it isn't to be."""
-        self.path = str(Path(folder, "socket"))
+
+def command_of(program: str = PROGRAM, python: str = sys.executable) -> list[str]:
+    """The words of a service before its own."""
+    return [python, "-B", str(SERVICE), "--program", program]
+
+
+class Started:
+    """A service that a command starts, with a Unix socket at a path, whose log is a file in a folder. To be used in a `with` statement,
+    which ends it."""
+
+    def __init__(self, folder: str, path: str, command: list[str] | str, is_ready: bool = True, **options: Any) -> None:
+        """Waits until the table is loaded, unless it isn't to be."""
+        self.path = path
         self.log_file = Path(folder, "log")
-        command = [*before, python, "-B", str(SERVICE), "--program", program, "--unix", self.path, *words]
         with open(self.log_file, "wb") as log:
             options.setdefault("stderr", log)
-            self.process = subprocess.Popen([*command, str(table)], **options)
+            self.process = subprocess.Popen(command, **options)
         if is_ready:
             until(lambda: "ready: " in self.log or self.process.poll() is not None, "the service")
 
-    def __enter__(self) -> "Served":
+    def __enter__(self) -> Self:
         return self
 
     def __exit__(self, *_: object) -> None:
         """Ends it. The second signal ends connections that still write."""
-        until_then = time.monotonic() + LONG
+        until_then = time.monotonic() + LONGEST
         while True:
             self.process.send_signal(signal.SIGTERM)
             try:
@@ -169,16 +176,26 @@ class Served:
 
     def connect(self) -> socket.socket:
         asker = socket.socket(socket.AF_UNIX)
-        asker.settimeout(LONG)
+        asker.settimeout(LONGEST)
         asker.connect(self.path)
         return asker
 
     def ask(self, queries: bytes) -> bytes:
         return talk(self.connect(), [queries])
 
+    def is_answered(self, boxes: int = 5) -> bool:
+        """Whether a connection is answered how many boxes there are: it isn't if it is refused, or if something was killed."""
+        try:
+            with self.connect() as asker:
+                asker.sendall(b"count all\n")
+                asker.shutdown(socket.SHUT_WR)
+                return (asker.recv(100), asker.recv(1)) == (b"ok 1 %d\n" % boxes, b"")
+        except OSError:
+            return False
+
     def reply_to(self, request: bytes) -> tuple[int, str]:
         """What the address of its health answers: a status, and a text."""
-        with socket.create_connection(self.place("health"), LONG) as asker:
+        with socket.create_connection(self.place("health"), LONGEST) as asker:
             asker.sendall(request)
             reply = b"".join(iter(lambda: asker.recv(4096), b"")).decode()
         status, length, text = found(HTTP, reply, re.DOTALL).groups()
@@ -190,6 +207,18 @@ class Served:
 
     def metric(self, name: str) -> float:
         return float(found(rf"^{re.escape(name)} (\S+)$", self.get("/metrics")[1], re.MULTILINE)[1])
+
+
+class Served(Started):
+    """The service of the checkout over a table, on a Unix socket in a folder."""
+
+    def __init__(
+        self, folder: str, table: Path, *words: str, before: Iterable[str] = (), program: str = PROGRAM,
+        python: str = sys.executable, **given: Any,
+    ) -> None:
+        """`before` are words of a command that runs it."""
+        path = f"{folder}/socket"
+        super().__init__(folder, path, [*before, *command_of(program, python), "--unix", path, *words, str(table)], **given)
 
 
 class Case(unittest.TestCase):
@@ -209,6 +238,14 @@ class Case(unittest.TestCase):
 
     def served(self, table: Path = BOXES, *words: str, **given: Any) -> Served:
         return self.enterContext(Served(self.folder, table, *words, **given))
+
+    def script(self, text: str) -> str:
+        """A program of the test's own, a script of the shell, with the library beside it."""
+        put_library(Path(self.folder))
+        script = Path(self.folder, "program")
+        script.write_text(f"#!/bin/sh\n{text}\n")
+        script.chmod(0o700)
+        return str(script)
 
     def build(self, *flags: object) -> str:
         """A copy of the program, with a test build of the library."""
@@ -246,7 +283,7 @@ def talk(asker: socket.socket, pieces: Iterable[bytes]) -> bytes:
             asker.sendall(piece)
         asker.shutdown(socket.SHUT_WR)
 
-    asker.settimeout(LONG)
+    asker.settimeout(LONGEST)
     with asker:
         writer = threading.Thread(target=write)
         writer.start()

@@ -86,16 +86,14 @@ class Confinement(Case):
         """The test build without the filter: no fault, in the program and in connections."""
         wants("valgrind")
         program = self.build("-g", "-DUNCONFINED")
-        wrapped = Path(self.folder, "rtfilter")
         logs = Path(self.folder, "valgrind")
         logs.mkdir()
-        wrapped.write_text(
-            f"#!/bin/sh\nexec valgrind --error-exitcode={ERROR_OF_VALGRIND} --trace-children=yes --leak-check=full "
-            f"--errors-for-leak-kinds=definite --log-file={logs}/%p {program} \"$@\"\n"
+        wrapped = self.script(
+            f"exec valgrind --error-exitcode={ERROR_OF_VALGRIND} --trace-children=yes --leak-check=full "
+            f"--errors-for-leak-kinds=definite --log-file={logs}/%p {program} \"$@\""
         )
-        wrapped.chmod(0o700)
-        Path(program).with_name("rtfilter-prefork.so").rename(wrapped.with_name("rtfilter-prefork.so"))
-        service = self.served(BOXES, "--connections", "2", "--tcp", "0", program=str(wrapped))
+        Path(program).with_name("rtfilter-prefork.so").rename(Path(wrapped).with_name("rtfilter-prefork.so"))
+        service = self.served(BOXES, "--connections", "2", "--tcp", "0", program=wrapped)
         queries = b"find all\nx\nnearest 2 12 12\n"
         for _ in range(3):
             self.assertEqual(service.ask(queries), output_of_program(BOXES, queries))

@@ -289,35 +289,28 @@ class WantOfRoom(Case):
             self.assert_well(service)
             until(lambda: service.open_files == before, "nothing left open")
 
-    def test_a_load_without_a_process(self) -> None:
-        """The log says why there is no table, or why the new one isn't taken."""
-        environment, flag = self.preload(NO_FORK)
-        why = "it can't serve a connection: Resource temporarily unavailable"
-        flag.touch()
-        service = self.served(is_ready=False, env=environment)
-        self.assertEqual(service.process.wait(10), 1)
-        self.assertEqual(service.log, f"listening on {service.path}\n{why}\n")
-        flag.unlink()
-        service = self.served(env=environment)
-        before = service.files_at_rest()
-        flag.touch()
-        service.signal(signal.SIGHUP)
-        service.logs(f"^the new table isn't taken, the old one stays: {why}$")
-        flag.unlink()
-        service.exchange()
-        self.assert_well(service)
-        until(lambda: service.open_files == before, "nothing left open")
-
-    def test_a_program_that_is_killed_as_it_starts(self) -> None:
-        """Before it leads a group of processes: the load has failed, and the next one is made."""
-        environment, flag = self.preload(NO_GROUP)
-        service = self.served(env=environment)
-        flag.touch()
-        service.signal(signal.SIGHUP)
-        service.logs("^the new table isn't taken, the old one stays: the program has ended, with status -9$")
-        flag.unlink()
-        service.exchange()
-        self.assert_well(service)
+    def test_loads_that_end_as_they_start(self) -> None:
+        """Without a process for a connection, or by a kill before the program leads a group of processes. The log says why there is no
+        table, or why the new one isn't taken, and the next load is made."""
+        for source, why in (
+            (NO_FORK, "it can't serve a connection: Resource temporarily unavailable"),
+            (NO_GROUP, "the program has ended, with status -9"),
+        ):
+            environment, flag = self.preload(source)
+            flag.touch()
+            service = self.served(is_ready=False, env=environment)
+            self.assertEqual(service.process.wait(10), 1)
+            self.assertEqual(service.log, f"listening on {service.path}\n{why}\n")
+            flag.unlink()
+            with Served(self.folder, BOXES, env=environment) as service:
+                before = service.files_at_rest()
+                flag.touch()
+                service.signal(signal.SIGHUP)
+                service.logs(f"^the new table isn't taken, the old one stays: {why}$")
+                flag.unlink()
+                service.exchange()
+                self.assert_well(service)
+                until(lambda: service.open_files == before, "nothing left open")
 
     def test_descriptors(self) -> None:
         """Where the service has no descriptor left, new connections wait, that is logged once, and nothing is busy."""

@@ -8,7 +8,8 @@ import subprocess
 import sys
 import time
 
-from served import BOXES, LONG, MOMENT, Case, Served, is_there, read_lines, send, stop, table_of, until
+from served import BOXES, MOMENT, Case, Served, is_there, read_lines, send, stop, table_of, until
+from support import LONGEST
 
 # A service whose program has reported its size and ended, both before the service looks.
 ENDING = """
@@ -17,7 +18,7 @@ from argparse import Namespace
 import prefork
 from service import SIGNALS, Service
 
-def start(errors, log, common):
+def start(errors, common):
     control, its_control = socket.socketpair(socket.AF_UNIX, socket.SOCK_SEQPACKET)
     first, its_first = socket.socketpair()
     control.setblocking(False)
@@ -52,7 +53,7 @@ class Control(Case):
     def test_a_program_that_ends_as_soon_as_it_has_loaded(self) -> None:
         """It isn't the table: its end comes with its size."""
         words = [sys.executable, "-c", ENDING]
-        done = subprocess.run(words, capture_output=True, text=True, timeout=LONG)
+        done = subprocess.run(words, capture_output=True, text=True, timeout=LONGEST)
         self.assertEqual((done.returncode, MOMENT.sub("", done.stderr)), (1, "the program has ended, with status 0\n"))
 
     def test_a_program_that_is_stopped_for_a_while(self) -> None:

@@ -14,7 +14,7 @@ from pathlib import Path
 from typing import Any
 
 from served import (
-    BOXES, PROGRAM, TRIES, Case, all_of, answers, is_there, put_library, read_lines, send, stop, table_of, until,
+    BOXES, PROGRAM, TRIES, Case, all_of, answers, is_there, read_lines, send, stop, table_of, until,
 )  # fmt: skip
 
 
@@ -102,19 +102,15 @@ class Ends(Case):
 
     def test_who_connects_while_it_ends(self) -> None:
         """Waits for the next service, where the socket stays: here a process of the program's ends only when it may."""
-        program, may_end = Path(self.folder, "program"), Path(self.folder, "may end")
+        may_end = Path(self.folder, "may end")
         waiting = f"while ! test -e '{may_end}'; do sleep 0.05; done"
-        program.write_text(
-            f'#!/bin/sh\nexec 3<&0\nLD_PRELOAD= setsid sh -c "{waiting}" <&3 3<&- &\nexec {PROGRAM} "$@" 3<&-\n'
-        )
-        program.chmod(0o700)
-        put_library(Path(self.folder))
+        program = self.script(f'exec 3<&0\nLD_PRELOAD= setsid sh -c "{waiting}" <&3 3<&- &\nexec {PROGRAM} "$@" 3<&-')
         with socket.socket(socket.AF_UNIX) as given, socket.socket(socket.AF_UNIX) as asker:
             given.bind(f"{self.folder}/given")
             given.listen()
             script = f'exec 3<&{given.fileno()}; LISTEN_FDS=1 LISTEN_PID=$$ exec "$@"'
             options: dict[str, Any] = {"before": ["bash", "-c", script, "-"], "pass_fds": [given.fileno()]}
-            service = self.served(program=str(program), **options)
+            service = self.served(program=program, **options)
             service.signal(signal.SIGTERM)
             until(lambda: not service.programs, "the end of the program")
             asker.connect(given.getsockname())
@@ -254,12 +250,8 @@ class Ends(Case):
     def test_a_first_load_that_fails(self) -> None:
         """There is no service: its status, and the reason. The table is faulty, missing, or doesn't come; the options are faulty; the
         program is another one, or can't set connections up."""
-        broken, other = Path(self.folder, "broken.h"), Path(self.folder, "other")
+        broken, faulty, missing, pipe = (Path(self.folder, name) for name in ("broken.h", "faulty", "missing", "pipe"))
         broken.write_text("#define _GNU_SOURCE\n#include <unistd.h>\n#define close_range(first, last, flags) -1\n")
-        other.write_text("#!/bin/sh\necho nonsense\nexit 0\n")
-        other.chmod(0o700)
-        put_library(Path(self.folder))
-        faulty, missing, pipe = (Path(self.folder, name) for name in ("faulty", "missing", "pipe"))
         faulty.write_text("1,1,0,0,0\n")
         os.mkfifo(pipe)
         for table, words, program, status, message in (
@@ -267,7 +259,7 @@ class Ends(Case):
             (missing, [], PROGRAM, 3, f"{missing}: cannot open table: No such file or directory"),
             (pipe, ["--load-timeout", "0.3"], PROGRAM, 1, f"{pipe}: not loaded in 0.3 seconds"),
             (BOXES, ["--fanout", "4", "--fanout", "5"], PROGRAM, 2, "rtfilter: bad command line"),
-            (BOXES, [], str(other), 1, "nonsense\nthe program has ended, with status 0"),
+            (BOXES, [], self.script("echo nonsense"), 1, "nonsense\nthe program has ended, with status 0"),
             (BOXES, [], self.build("-include", broken), 1, "it can't serve a connection: status 71"),
         ):
             with self.subTest(message):

@@ -10,7 +10,7 @@ import threading
 import time
 from pathlib import Path
 
-from served import BOXES, PROGRAM, Case, Served, all_of, answers, put_library, read_lines, send, output_of_program, until
+from served import BOXES, PROGRAM, Case, Served, all_of, answers, read_lines, send, output_of_program, until
 from support import AT_IMPORT, HANG_UP, INTERRUPT
 
 
@@ -70,20 +70,6 @@ class Exchanges(Case):
         self.assertEqual([service.metric(f"rtfilter_connections{name}") for name in ("", "_total")], [0, len(finished)])
         self.assertNotIn("refused", service.log)
 
-    def test_a_connection_keeps_its_table(self) -> None:
-        service = self.served(self.table)
-        with service.connect() as old:
-            old.sendall(b"find all\n")
-            self.assertEqual(read_lines(old, 6), output_of_program(BOXES, b"find all\n"))
-            self.put("7,0,1,0,1\n")
-            service.exchange()
-            for at in range(2, 5):
-                self.count(old, at=at)
-                self.assertEqual(service.ask(b"find all"), b"7 0\nok 1 1\n")
-            self.assertEqual(len(service.programs), 2)
-        until(lambda: len(service.programs) == 1, "the end of the old table")
-        service.logs("^the table is exchanged: 1 boxes$")
-
     def test_drain(self) -> None:
         """What is left to the old table after that is ended, and logged."""
         service = self.served(self.table, "--drain", "0.5")
@@ -99,13 +85,14 @@ class Exchanges(Case):
         self.assert_well(service)
 
     def test_at_most_two_tables(self) -> None:
-        """A third is loaded once the first one's connections have ended; any number of signals is one. The log says what that waits
-        for."""
+        """A connection keeps its table. A third one is loaded once the first one's connections have ended; any number of signals is one.
+        The log says what that waits for."""
         service = self.served(self.table, "--drain", "120")
         with service.connect() as old:
             self.count(old)
             self.put("7,0,1,0,1\n")
             service.exchange()
+            service.logs("^the table is exchanged: 1 boxes$")
             self.put("8,0,1,0,1\n9,0,1,0,1\n")
             for _ in range(50):
                 service.signal(signal.SIGHUP)
@@ -114,7 +101,8 @@ class Exchanges(Case):
             service.logs(f"^the exchange waits until another one is over: {what}$")
             self.assertEqual(len(service.programs), 2)
             self.assertEqual(service.ask(b"find all"), b"7 0\nok 1 1\n")
-            self.count(old, at=2)
+            old.sendall(b"find all\n")
+            self.assertEqual(read_lines(old, 6), output_of_program(BOXES, b"\nfind all\n"))
         service.logs("^the table is exchanged: 2 boxes$")
         self.assertEqual(service.ask(b"find all"), b"8 0\n9 0\nok 1 2\n")
         until(lambda: len(service.programs) == 1, "the end of the old table")
@@ -122,11 +110,8 @@ class Exchanges(Case):
 
     def slow_program(self) -> tuple[str, Path]:
         """A program that begins to load its table once a file is there, and the file."""
-        slow, may_load = Path(self.folder, "slow"), Path(self.folder, "may load")
-        slow.write_text(f"#!/bin/sh\nwhile ! test -e '{may_load}'; do sleep 0.05; done\nexec {PROGRAM} \"$@\"\n")
-        slow.chmod(0o700)
-        put_library(Path(self.folder))
-        return str(slow), may_load
+        may_load = Path(self.folder, "may load")
+        return self.script(f"while ! test -e '{may_load}'; do sleep 0.05; done\nexec {PROGRAM} \"$@\""), may_load
 
     def test_while_it_is_loaded(self) -> None:
         """The old table answers; a signal for another one has it loaded afterwards."""
@@ -244,13 +229,6 @@ class Exchanges(Case):
         until(lambda: service.open_files == before, "nothing left open")
         self.assertLess(service.memory - memory, 2000)
 
-    def is_answered(self, service: Served) -> bool:
-        """Unless the program, or this connection, has just been killed."""
-        try:
-            return service.ask(b"count all\n") == b"ok 1 5\n"
-        except ConnectionError:
-            return False
-
     def test_a_storm_of_signals(self) -> None:
         """While others ask: no program that ends is overlooked meanwhile, and no signal to end."""
         self.addCleanup(sys.setswitchinterval, sys.getswitchinterval())
@@ -266,7 +244,7 @@ class Exchanges(Case):
             try:
                 for at in range(10):
                     send(signal.SIGKILL, service.programs[:1])
-                    until(lambda: self.is_answered(service), "an answer")
+                    until(service.is_answered, "an answer")
                 service.signal(signal.SIGTERM)
                 until(lambda: service.process.poll() is not None, "the end of the service")
             finally:

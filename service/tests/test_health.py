@@ -11,7 +11,7 @@ import sys
 import time
 from pathlib import Path
 
-from served import BOXES, MOMENT, PROGRAM, SERVICE, Case, put_library, read_lines, stop, table_of, until
+from served import BOXES, MOMENT, Case, command_of, copied, read_lines, stop, table_of, until
 
 SAMPLE = r'^rtfilter_[a-z_]+(\{(status|signal)="\d+"\})? \d+(\.\d+)?$'
 HEALTH = b"GET /health HTTP/1.0\r\n"
@@ -95,8 +95,7 @@ class Health(Case):
 
     def test_loads_that_do_not_begin(self) -> None:
         """They have failed, too: the program is gone, as while a package is exchanged."""
-        program = Path(shutil.copy(PROGRAM, self.folder))
-        put_library(Path(self.folder))
+        program = copied(Path(self.folder))
         service = self.served(BOXES, "--health", "0", program=str(program))
         program.unlink()
         service.signal(signal.SIGHUP)
@@ -159,8 +158,7 @@ class Health(Case):
         with open(Path(self.folder, "journal"), "wb") as journal:
             status = os.fstat(journal.fileno())
             stream = {**os.environ, "JOURNAL_STREAM": f"{status.st_dev}:{status.st_ino}"}
-            words = ["--unix", f"{self.folder}/other", "--program", PROGRAM, "/no/such/table"]
-            subprocess.run([sys.executable, "-B", SERVICE, *words], stderr=journal, env=stream, timeout=20)
+            subprocess.run([*command_of(), "--unix", f"{self.folder}/other", "/no/such/table"], stderr=journal, env=stream, timeout=20)
         logged = Path(self.folder, "journal").read_text().splitlines()
         self.assertEqual(logged, [f"listening on {self.folder}/other", "/no/such/table: cannot open table: No such file or directory"])
 

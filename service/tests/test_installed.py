@@ -8,7 +8,7 @@ import socket
 import subprocess
 from pathlib import Path
 
-from served import BOXES, MOMENT, PROGRAM, ROOT, Case, talk
+from served import BOXES, PROGRAM, ROOT, Case, Started
 from support import found, wants
 
 UNITS = ROOT / "service/rtfilter.socket", ROOT / "service/rtfilter.service"
@@ -30,15 +30,10 @@ class Installed(Case):
         """By the system's Python, from another folder, with nothing but the system's paths."""
         path = f"{self.folder}/socket"
         words = [self.place / "bin/rtfilter-serve", "--program", self.place / "bin/rtfilter", "--unix", path, BOXES]
-        with subprocess.Popen([*map(str, words)], env=PLAIN, cwd="/", stderr=subprocess.PIPE, text=True) as service:
-            assert service.stderr
-            lines = [MOMENT.sub("", service.stderr.readline()) for _ in range(2)]
-            self.assertEqual(lines, [f"listening on {path}\n", "ready: 5 boxes\n"])
-            with socket.socket(socket.AF_UNIX) as asker:
-                asker.connect(path)
-                self.assertEqual(talk(asker, [b"count all\n"]), b"ok 1 5\n")
-            service.terminate()
-            self.assertEqual(service.wait(10), 0)
+        with Started(self.folder, path, [*map(str, words)], env=PLAIN, cwd="/") as service:
+            self.assertEqual(service.log, f"listening on {path}\nready: 5 boxes\n")
+            self.assertEqual(service.ask(b"count all\n"), b"ok 1 5\n")
+        self.assertEqual(service.process.returncode, 0)
 
     def test_it_is_removed(self) -> None:
         self.make("uninstall")

@@ -4,13 +4,12 @@ import contextlib
 import os
 import re
 import shutil
-import signal
 import subprocess
 from collections.abc import Iterator
 from pathlib import Path
 from typing import Any
 
-from served import BOXES, MOMENT, PROGRAM, ROOT, Case
+from served import BOXES, MOMENT, PROGRAM, ROOT, Case, Started
 from support import wants
 
 QUICK_START, PAGE = ROOT / "docs/quick-start.md", ROOT / "docs/service.md"
@@ -32,18 +31,15 @@ class Typed(Case):
         self.words["env"] = {"PATH": f"{folder}:/usr/bin:/bin"}
 
     @contextlib.contextmanager
-    def started(self, command: str) -> Iterator["subprocess.Popen[str]"]:
-        """The service, which is ended by a signal, with status 0."""
-        with subprocess.Popen(f"exec {command}", stderr=subprocess.PIPE, **self.words) as service:
-            self.addCleanup(service.kill)
-            try:
-                yield service
-            finally:
-                service.terminate()
-            assert service.stderr
-            service.stderr.read()
-            self.assertEqual(service.wait(10), 0)
-        self.assertFalse(os.path.lexists(f"{self.folder}/boxes.socket"))
+    def started(self, command: str, expected: list[str]) -> Iterator[Started]:
+        """The service, which begins with these lines of a page, at other times, and is ended by a signal, with status 0."""
+        with Started(self.folder, f"{self.folder}/boxes.socket", f"exec {command}", **self.words) as service:
+            logged = service.log_file.read_text().splitlines()
+            self.assertEqual([MOMENT.sub("", line) for line in logged], [MOMENT.sub("", line) for line in expected])
+            self.assertTrue(all(map(MOMENT.match, [*logged, *expected])))
+            yield service
+        self.assertEqual(service.process.returncode, 0)
+        self.assertFalse(os.path.lexists(service.path))
 
     def typed(self, command: str) -> str:
         wants("nc")
@@ -53,8 +49,7 @@ class Typed(Case):
         """What it shows: the log, and the replies."""
         served, netcat = re.findall(r"^```\n\$ ((?:rtfilter-serve|printf).*?)^```$", PAGE.read_text(), re.MULTILINE | re.DOTALL)
         command, *expected = served.replace("/usr/share/rtfilter/", "").splitlines()
-        with self.started(command) as service:
-            self.logs(service, expected)
+        with self.started(command, expected):
             command, *shown = netcat.splitlines()
             self.assertEqual(self.typed(command).splitlines(), shown)
 
@@ -62,22 +57,7 @@ class Typed(Case):
         """A query is answered over the socket, and again after SIGHUP has replaced the table."""
         page = QUICK_START.read_text(encoding="utf-8")
         ((serve, log),), ((ask, shown),) = STARTED.findall(page), TYPED.findall(page)
-        with self.started(serve) as service:
-            self.logs(service, log.splitlines())
+        with self.started(serve, log.splitlines()) as service:
             self.assertEqual(self.typed(ask), shown)
-            service.send_signal(signal.SIGHUP)
-            self.wait_for_table(service)
+            service.exchange()
             self.assertEqual(self.typed(ask), shown)
-
-    def logs(self, service: "subprocess.Popen[str]", expected: list[str]) -> None:
-        """It begins with the lines that the page shows, at other times."""
-        assert service.stderr
-        logged = [service.stderr.readline().rstrip("\n") for _ in expected]
-        self.assertEqual([MOMENT.sub("", line) for line in logged], [MOMENT.sub("", line) for line in expected])
-        self.assertTrue(all(map(MOMENT.match, [*logged, *expected])))
-
-    def wait_for_table(self, service: "subprocess.Popen[str]") -> None:
-        """Waits until a table is loaded, which a line of the log says."""
-        assert service.stderr
-        while not (line := service.stderr.readline()).endswith(": 5 boxes\n"):
-            self.assertTrue(line, "the service has ended")

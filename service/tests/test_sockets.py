@@ -10,19 +10,19 @@ import socket
 import stat
 import subprocess
 import sys
+import tempfile
 import time
+from collections.abc import Iterable
 from pathlib import Path
 
-from served import (
-    BOXES, MOMENT, PROGRAM, SERVICE, SYSTEM_PYTHON, Case, Served, children_of, table_of, talk, until,
-)  # fmt: skip
+from served import BOXES, MOMENT, SYSTEM_PYTHON, Case, Served, Started, children_of, command_of, copied, table_of, talk, until
 
 PIDFD_GETFD = 438  # a call of Linux: another process's descriptor
 
 
-def run(*words: object) -> tuple[int, str]:
+def run(*words: object, before: Iterable[str] = (), python: str = sys.executable) -> tuple[int, str]:
     """A service that is to end by itself: its status, and what it logs."""
-    command = [sys.executable, "-B", str(SERVICE), "--program", PROGRAM, *map(str, words)]
+    command = [*before, *command_of(python=python), *map(str, words)]
     done = subprocess.run(command, capture_output=True, text=True, timeout=20)
     return done.returncode, MOMENT.sub("", done.stderr)
 
@@ -55,10 +55,9 @@ class Sockets(Case):
         self.need_another_user()
         os.chmod(self.folder, 0o755)
         path = f"{self.folder}/socket"
-        command = [SYSTEM_PYTHON, "-B", str(SERVICE), "--program", PROGRAM, "--unix", path, str(BOXES)]
-        done = subprocess.run(["setpriv", "--reuid", "65534", "--clear-groups", *command], capture_output=True, text=True, timeout=20)
         message = f"rtfilter-serve: --unix {path}: this user may make no socket in its folder: choose another path\n"
-        self.assertEqual((done.returncode, MOMENT.sub("", done.stderr)), (1, message))
+        before = ["setpriv", "--reuid", "65534", "--clear-groups"]
+        self.assertEqual(run("--unix", path, BOXES, before=before, python=SYSTEM_PYTHON), (1, message))
 
     def test_a_backlog_that_is_full(self) -> None:
         """Whoever listens there is left alone, even where nobody is accepted."""
@@ -88,23 +87,16 @@ class Sockets(Case):
         path = str(Path(self.folder, "socket"))
         with socket.socket(socket.AF_UNIX) as left:
             left.bind(path)
-        command = [sys.executable, "-B", str(SERVICE), "--program", PROGRAM, "--unix", path, str(BOXES)]
-        services = [subprocess.Popen(command, stderr=subprocess.PIPE, text=True) for _ in range(4)]
-        for service in services:
-            self.addCleanup(service.kill)
-        until(lambda: sum(service.poll() is not None for service in services) == 3, "the end of three")
-        (winner,) = [service for service in services if service.poll() is None]
-        assert winner.stderr
-        self.assertEqual(MOMENT.sub("", winner.stderr.readline()), f"listening on {path}\n")
-        # (the others have looked whether somebody listens, which the log tells as connections, perhaps before this)
-        self.assertIn("ready: 5 boxes\n", (MOMENT.sub("", line) for line in iter(winner.stderr.readline, "")))
-        with socket.socket(socket.AF_UNIX) as asker:
-            asker.connect(path)
-            self.assertEqual(talk(asker, [b"count all"]), b"ok 1 5\n")
-        winner.terminate()
-        for service in services:
-            service.communicate(timeout=10)
-        self.assertEqual(sorted(service.returncode for service in services), [0, 1, 1, 1])
+        command = [*command_of(), "--unix", path, str(BOXES)]
+        folders = [self.enterContext(tempfile.TemporaryDirectory()) for _ in range(4)]
+        services = [self.enterContext(Started(it, path, command, is_ready=False)) for it in folders]
+        until(lambda: sum(service.process.poll() is not None for service in services) == 3, "the end of three")
+        (winner,) = [service for service in services if service.process.poll() is None]
+        winner.logs("^ready: 5 boxes$")
+        self.assertTrue(winner.log.startswith(f"listening on {path}\n"))
+        self.assertEqual(winner.ask(b"count all"), b"ok 1 5\n")
+        winner.signal(signal.SIGTERM)
+        self.assertEqual(sorted(service.process.wait(10) for service in services), [0, 1, 1, 1])
 
     def test_one_after_another(self) -> None:
         """A service that looks at a path, and takes or leaves it, is alone in its folder meanwhile."""
@@ -307,39 +299,15 @@ class Surroundings(Case):
         os.close(left)
         scripts = 'exec "$@" 2>&-', 'exec "$@" <&- >&- 2>&-', 'exec "$@"', 'exec "$@"'
         for script, errors in zip(scripts, (None, None, broken, writing)):
-            path = f"{self.folder}/socket"
-            command = ["sh", "-c", script, "-", sys.executable, "-B", str(SERVICE), "--program", PROGRAM, "--unix", path]
-            process = subprocess.Popen([*command, "--connections", "1", str(many)], stderr=errors)
-            self.addCleanup(process.kill)
-            until(lambda: answers_at(path), "the service")
+            service = self.served(many, "--connections", "1", before=["sh", "-c", script, "-"], is_ready=False, stderr=errors)
+            until(lambda: service.is_answered(50_000), "the service")
             for _ in range(3):
-                with socket.socket(socket.AF_UNIX) as asker:  # one that ends with a line of its own
-                    asker.connect(path)
+                with service.connect() as asker:  # one that ends with a line of its own
                     asker.sendall(b"find all\n" * 50)
                     asker.recv(1)
-                until(lambda: answers_at(path), "an end to that")
-                process.send_signal(signal.SIGHUP)
-            process.terminate()
-            self.assertEqual(process.wait(10), 0)
+                until(lambda: service.is_answered(50_000), "an end to that")
+                service.signal(signal.SIGHUP)
+            service.signal(signal.SIGTERM)
+            self.assertEqual(service.process.wait(10), 0)
         for end in (reading, writing, broken):
             os.close(end)
-
-
-def answers_at(path: str) -> bool:
-    """Whether somebody listens there, with room for a connection."""
-    with socket.socket(socket.AF_UNIX) as asker:
-        try:
-            asker.connect(path)
-            asker.sendall(b"count all\n")
-            asker.shutdown(socket.SHUT_WR)
-            return (asker.recv(100), asker.recv(1)) == (b"ok 1 50000\n", b"")
-        except OSError:
-            return False
-
-
-def copied(folder: Path) -> Path:
-    """A copy of the program and its library."""
-    for name in ("rtfilter", "rtfilter-prefork.so"):
-        Path(folder, name).write_bytes(Path(PROGRAM).with_name(name).read_bytes())
-    Path(folder, "rtfilter").chmod(0o755)
-    return Path(folder, "rtfilter")
