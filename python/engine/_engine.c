@@ -22,6 +22,7 @@ enum {
     MOST_VERTICES = 16,
 };
 
+#define CLOSED "the table was closed"
 static PyObject *table_error, *query_error, *layer_bits; /* exceptions, and the function that reads layers: from Python */
 
 /* ---- Tables and their sessions */
@@ -41,7 +42,8 @@ typedef struct {
     worker *idle;           /* a stack, guarded by the interpreter's lock, as `first` is */
 } Table;
 
-/* Raises an exception that was made, if it could be made. */
+/* Raises an exception that was made, if it could be made. What raises returns null, as functions of Python do: false, for a caller
+ * that returns a bool. */
 static PyObject *raise_made(PyObject *class, PyObject *error)
 {
     if (error)
@@ -54,8 +56,7 @@ static PyObject *failed(int code)
 {
     if (code == RTFILTER_NO_MEMORY)
         return PyErr_NoMemory();
-    PyErr_SetString(code == RTFILTER_BAD_PROCESSOR ? PyExc_RuntimeError : PyExc_SystemError, rtfilter_message(code));
-    return NULL;
+    return PyErr_Format(code == RTFILTER_BAD_PROCESSOR ? PyExc_RuntimeError : PyExc_SystemError, "%s", rtfilter_message(code));
 }
 
 static void end_worker(worker *it)
@@ -95,7 +96,7 @@ static worker *take(Table *table)
 {
     worker *it = table->idle;
     if (!table->first.at) {
-        PyErr_SetString(PyExc_ValueError, "the table was closed");
+        PyErr_SetString(PyExc_ValueError, CLOSED);
         return NULL;
     }
     if (!it)
@@ -189,10 +190,9 @@ static PyObject *opened(Table *self, int code, const rtfilter_fault *fault)
     Py_DECREF(self);
     if (code == RTFILTER_BAD_TABLE)
         return raise_fault(fault);
-    if (code != RTFILTER_BAD_SETTING)
-        return failed(code);
-    PyErr_SetString(PyExc_ValueError, "fanout is 2 to 64, and max_entries 1 to 16777216");
-    return NULL;
+    if (code == RTFILTER_BAD_SETTING)
+        return PyErr_Format(PyExc_ValueError, "fanout is 2 to 64, and max_entries 1 to 16777216");
+    return failed(code);
 }
 
 /* Reads a setting, for PyArg_ParseTuple. A number that doesn't fit becomes 0, which the library refuses. */
@@ -320,10 +320,8 @@ static bool put_number(const request *it, PyObject *number, PyObject *of, void *
         return false;
     const long long value = PyLong_AsLongLongAndOverflow(found, &overflow);
     Py_DECREF(found);
-    if (overflow || value < (is_unsigned ? 0 : INT32_MIN) || value > (is_unsigned ? (long long)UINT32_MAX : INT32_MAX)) {
-        raise_query(it->part, -1, "Q6", "out of range");
-        return false;
-    }
+    if (overflow || value < (is_unsigned ? 0 : INT32_MIN) || value > (is_unsigned ? (long long)UINT32_MAX : INT32_MAX))
+        return raise_query(it->part, -1, "Q6", "out of range");
     const uint32_t bits = (uint32_t)value;
     memcpy(field, &bits, sizeof bits);
     return true;
@@ -332,10 +330,7 @@ static bool put_number(const request *it, PyObject *number, PyObject *of, void *
 /* Whether it is one: a named tuple that is made by `tuple.__new__` holds anything. */
 static bool is_tuple(PyObject *it, PyObject *polygon)
 {
-    if (PyTuple_Check(it))
-        return true;
-    PyErr_Format(PyExc_TypeError, "vertices aren't a tuple of pairs (x, y): %.200R", polygon);
-    return false;
+    return PyTuple_Check(it) || PyErr_Format(PyExc_TypeError, "vertices aren't a tuple of pairs (x, y): %.200R", polygon);
 }
 
 static bool put_vertices(request *it, PyObject *polygon)
@@ -366,8 +361,11 @@ static const struct kind *kind_of(PyObject *class, int from, int to)
     return NULL;
 }
 
-static bool put_numbers(request *it, const struct kind *kind, PyObject *value)
+/* Puts the code and the numbers of a region or an order. */
+static bool put_kind(request *it, const struct kind *kind, PyObject *value, uint32_t *code)
 {
+    it->part = value;
+    *code = kind->code;
     for (int at = 0; at < kind->numbers; at++) {
         PyObject *number = PyTuple_GetItem(value, at);
         if (!number || !put_number(it, number, value, (char *)&it->query + kind->at[at], kind->at[at] == AT(radius)))
@@ -379,13 +377,9 @@ static bool put_numbers(request *it, const struct kind *kind, PyObject *value)
 static bool put_region(request *it, PyObject *value)
 {
     const struct kind *kind = kind_of((PyObject *)Py_TYPE(value), 0, ORDERS);
-    if (!kind) {
-        PyErr_Format(PyExc_TypeError, "%.200R is no region", value);
-        return false;
-    }
-    it->part = value;
-    it->query.region = kind->code;
-    if (!put_numbers(it, kind, value))
+    if (!kind)
+        return PyErr_Format(PyExc_TypeError, "%.200R is no region", value);
+    if (!put_kind(it, kind, value, &it->query.region))
         return false;
     if (kind->code == RTFILTER_POLYGON)
         return put_vertices(it, value);
@@ -394,22 +388,16 @@ static bool put_region(request *it, PyObject *value)
         it->query.near_x = it->query.x;
         it->query.near_y = it->query.y;
     }
-    if (it->query.min_x <= it->query.max_x && it->query.min_y <= it->query.max_y)
-        return true;
-    raise_query(value, -1, "Q7", TURNED);
-    return false;
+    const bool is_turned = it->query.min_x > it->query.max_x || it->query.min_y > it->query.max_y;
+    return !is_turned || raise_query(value, -1, "Q7", TURNED);
 }
 
 static bool put_order(request *it, PyObject *value)
 {
     const struct kind *kind = kind_of((PyObject *)Py_TYPE(value), ORDERS, KINDS);
-    if (!kind) {
-        PyErr_Format(PyExc_TypeError, "%.200R is no order", value);
-        return false;
-    }
-    it->part = value;
-    it->query.order = kind->code;
-    return put_numbers(it, kind, value);
+    if (!kind)
+        return PyErr_Format(PyExc_TypeError, "%.200R is no order", value);
+    return put_kind(it, kind, value, &it->query.order);
 }
 
 /* Raises that a number is out of range. Takes the words that an error names; null if Python doesn't print as many digits. */
@@ -462,10 +450,8 @@ static bool put_arguments(PyObject **given, const char *const *known, int most, 
                           Py_ssize_t count, PyObject *names)
 {
     const Py_ssize_t named = names ? PyTuple_Size(names) : 0;
-    if (count > by_place) {
-        PyErr_Format(PyExc_TypeError, "%zd arguments by place, of at most %d", count, by_place);
-        return false;
-    }
+    if (count > by_place)
+        return PyErr_Format(PyExc_TypeError, "%zd arguments by place, of at most %d", count, by_place);
     for (Py_ssize_t at = 0; at < count; at++)
         given[at] = args[at];
     for (Py_ssize_t at = 0; at < named; at++) {
@@ -473,10 +459,8 @@ static bool put_arguments(PyObject **given, const char *const *known, int most, 
         int place = 0;
         while (place < most && PyUnicode_CompareWithASCIIString(name, known[place]))
             place++;
-        if (place == most || place < count) {
-            PyErr_Format(PyExc_TypeError, place == most ? "no argument is called %R" : "argument %R twice", name);
-            return false;
-        }
+        if (place == most || place < count)
+            return PyErr_Format(PyExc_TypeError, place == most ? "no argument is called %R" : "argument %R twice", name);
         given[place] = args[count + at];
     }
     return true;
@@ -487,8 +471,8 @@ static bool put_all(request *it, PyObject *region, PyObject *order, PyObject *fi
     it->query = rtfilter_all();
     it->part = NULL;
     if (!region)
-        PyErr_SetString(PyExc_TypeError, "no region");
-    return region && put_region(it, region) && put_rest(it, order, first, on);
+        return PyErr_Format(PyExc_TypeError, "no region");
+    return put_region(it, region) && put_rest(it, order, first, on);
 }
 
 /* The request of a find: region, order and first by place or name, on and scores by name. */
@@ -880,12 +864,9 @@ static PyObject *table_text(Table *self, PyObject *lines)
 /* _info(): the number of boxes, the number of nodes of each level, and min_x, min_y, max_x, max_y. */
 static PyObject *table_info(Table *self, PyObject *Py_UNUSED(unused))
 {
-    rtfilter_info info;
-    memset(&info, 0, sizeof info);
-    if (rtfilter_info_of(&self->first, &info) != RTFILTER_OK) {
-        PyErr_SetString(PyExc_ValueError, "the table was closed");
-        return NULL;
-    }
+    rtfilter_info info = {0};
+    if (rtfilter_info_of(&self->first, &info) != RTFILTER_OK)
+        return PyErr_Format(PyExc_ValueError, CLOSED);
     PyObject *levels = PyTuple_New(info.levels);
     for (uint32_t at = 0; levels && at < info.levels; at++) {
         PyObject *size = PyLong_FromUnsignedLong(info.level_sizes[at]);
@@ -976,10 +957,7 @@ static Py_ssize_t hold_slice(const Polygons *self, const int64_t *parts, const i
 
 static bool is_part(const Polygons *self, int64_t part)
 {
-    if (part >= 0 && part < self->lens[PARTS] - 1)
-        return true;
-    PyErr_SetString(PyExc_IndexError, "no such part");
-    return false;
+    return (part >= 0 && part < self->lens[PARTS] - 1) || PyErr_Format(PyExc_IndexError, "no such part");
 }
 
 /* holds(part, x, y): in less time than an array of one point. */
@@ -996,7 +974,7 @@ static PyObject *polygons_holds(Polygons *self, PyObject *args)
 static PyObject *polygons_holds_each(Polygons *self, PyObject *args)
 {
     PyObject *from[2], *all = NULL;
-    Py_buffer of[2];
+    Py_buffer of[2] = {0};
     Py_ssize_t len = -1;
     int views = 0;
     if (!PyArg_ParseTuple(args, "OO", from, from + 1))
@@ -1067,16 +1045,12 @@ static PyObject *know(PyObject *Py_UNUSED(module), PyObject *args)
     static int64_t owner = -1;
     const int64_t interpreter = PyInterpreterState_GetID(PyInterpreterState_Get());
     PyObject *classes, *one, *other, *reader;
-    if (owner >= 0 && owner != interpreter) {
-        PyErr_SetString(PyExc_ImportError, "another interpreter of this process has imported rtfilter");
-        return NULL;
-    }
+    if (owner >= 0 && owner != interpreter)
+        return PyErr_Format(PyExc_ImportError, "another interpreter of this process has imported rtfilter");
     if (!PyArg_ParseTuple(args, "O!OOO", &PyTuple_Type, &classes, &one, &other, &reader))
         return NULL;
-    if (PyTuple_Size(classes) != KINDS) {
-        PyErr_SetString(PyExc_ValueError, "another number of classes");
-        return NULL;
-    }
+    if (PyTuple_Size(classes) != KINDS)
+        return PyErr_Format(PyExc_ValueError, "another number of classes");
     owner = interpreter;
     for (int at = 0; at < KINDS; at++)
         kinds[at].class = Py_NewRef(PyTuple_GetItem(classes, at));

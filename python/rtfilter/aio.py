@@ -13,7 +13,7 @@ from collections.abc import Iterable
 from types import TracebackType
 from typing import Any, Self
 
-from .client import PAUSE, Address, is_readable, name_of, named
+from .client import PAUSE, Address, connecting_to, is_readable, name_of
 from .errors import Disconnected, TimedOut
 from .regions import All, Layers, Order, Region, count_line, find_line, nearest_line
 from .replies import Answers, Question, Read, Reply, answers_of, is_whole, line_question, lines_question, reason, text_question
@@ -179,14 +179,12 @@ class Client:
 async def _opened(address: Address) -> Connection:
     """A connection. Raises OSError with the address."""
     loop = asyncio.get_running_loop()
-    try:
+    with connecting_to(address):
         if isinstance(address, tuple):
             _, connection = await loop.create_connection(Connection, *address)
         else:
             _, connection = await loop.create_unix_connection(Connection, sock=await _connected_here(os.fspath(address)))
         return connection
-    except OSError as error:
-        raise named(error, address)
 
 
 async def _connected_here(path: str) -> socket.socket:

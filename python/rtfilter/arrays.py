@@ -4,6 +4,7 @@ Only calls about arrays import this module, and numpy with it.
 """
 
 from collections.abc import Iterable, Iterator, Sequence
+from contextlib import contextmanager
 from copy import copy
 from functools import cache
 from operator import index
@@ -29,24 +30,35 @@ _names, _formats, _offsets = zip(*_engine.layout)
 QUERY = numpy.dtype({"names": _names, "formats": _formats, "offsets": _offsets, "itemsize": _engine.query_size})
 
 
-def is_frame(value: object) -> bool:
-    """Whether a value has columns with names, as a frame of pandas has."""
-    return hasattr(value, "columns") and hasattr(value, "itertuples")
-
-
 def columns_of(value: Any, what: str, required: Sequence[str], optional: Sequence[str] = ()) -> Columns:
     """Columns of whole numbers: of an array of two dimensions, of a list of rows, or of a frame or an array with fields, by
     their names. Raises TypeError if a number isn't whole, a column is missing or there twice, or the shape is another."""
     columns = _named(value, what, required, optional)
     if columns is not None:
         return [whole(it, what) for it in columns]
-    array = value if isinstance(value, numpy.ndarray) else _array(value, what)
+    array = _array(value, what)
     if array.shape == (0,):
         return [numpy.empty(0, "i8") for _ in required]
     widths = sorted({len(required), len(required) + len(optional)})
     if array.ndim != 2 or array.shape[1] not in widths:
         raise TypeError(f"{what}: the shape is {array.shape}, and not (n, {' or '.join(map(str, widths))})")
     return list(whole(array, what).T)
+
+
+def columns_of_bounds(bounds: Any, ids: Any, layers: Any) -> Columns:
+    """The columns of a table, from rows of min_x, min_y, max_x, max_y. Without ids, these are the places of the rows."""
+    min_x, min_y, max_x, max_y = columns_of(bounds, "bounds", BOUNDS)
+    count = len(min_x)
+    columns = [numpy.arange(count) if ids is None else _column(ids, "ids", count), min_x, max_x, min_y, max_y]
+    return columns if layers is None else [*columns, _column(layers, "layers", count)]
+
+
+def _column(values: Any, what: str, count: int) -> NDArray[Any]:
+    """A column of whole numbers, as many as there are boxes."""
+    column = _array(values, what)
+    if column.shape != (count,):
+        raise TypeError(f"{what}: the shape is {column.shape}, and not ({count},)")
+    return whole(column, what) if count else numpy.empty(0, "i8")
 
 
 def floats_of(value: Any, what: str, names: Sequence[str]) -> NDArray[numpy.float64]:
@@ -56,12 +68,24 @@ def floats_of(value: Any, what: str, names: Sequence[str]) -> NDArray[numpy.floa
     array = _unmasked(_read(value, what), what) if columns is None else numpy.stack(columns, axis=1)
     if array.dtype.kind not in "biufO":
         raise TypeError(f"{what}: numbers are {array.dtype}")
-    return numpy.asarray(array, "f8")
+    return _floats_of_objects(array, what) if array.dtype.kind == "O" else numpy.asarray(array, "f8")
+
+
+def _floats_of_objects(array: NDArray[Any], what: str) -> NDArray[numpy.float64]:
+    for it in array.flat:
+        if isinstance(it, (str, bytes)):  # (in which numpy would read a number)
+            raise TypeError(f"{what}: {it!r:.50} is no number")
+    try:
+        return array.astype("f8")
+    except TypeError as error:
+        raise TypeError(f"{what}: {error}") from None
+    except OverflowError:
+        raise ValueError(f"{what}: a number is out of the range of floats") from None
 
 
 def _named(value: Any, what: str, required: Sequence[str], optional: Sequence[str] = ()) -> Columns | None:
     """The columns of a frame or of an array with fields, by their names; None if there are no names."""
-    names = value.columns if is_frame(value) else getattr(getattr(value, "dtype", None), "names", None)
+    names = value.columns if hasattr(value, "columns") else getattr(getattr(value, "dtype", None), "names", None)
     if names is None:
         return None
     columns = [_unmasked(numpy.asanyarray(value[name]), what) for name in _found(list(names), what, required, optional)]
@@ -70,11 +94,13 @@ def _named(value: Any, what: str, required: Sequence[str], optional: Sequence[st
     return columns
 
 
-def _array(rows: Any, what: str) -> NDArray[Any]:
-    """Rows as an array. Where numpy would make floats of whole numbers, each stays as it is."""
-    if not isinstance(rows, Iterable):
-        raise TypeError(f"{what}: an array, a frame or a list of rows, and not {rows!r:.200}")
-    listed = list(rows)
+def _array(value: Any, what: str) -> NDArray[Any]:
+    """An array as it is, or a list as one. Where numpy would make floats of whole numbers in a list, each stays as it is."""
+    if hasattr(value, "dtype"):
+        return numpy.asanyarray(value)
+    if not isinstance(value, Iterable):
+        raise TypeError(f"{what}: an array, a frame or a list of rows, and not {value!r:.200}")
+    listed = list(value)
     array = _read(listed, what)
     return array if array.dtype.kind in "iu" else numpy.array(listed, dtype=object)
 
@@ -191,6 +217,24 @@ class Queries:
         some.columns = [it[at] for it in self.columns]
         return some
 
+    def found_in(self, table: _engine.Table, has_scores: bool, exact: tuple[Any, ...]) -> tuple[Any, Any, Any]:
+        """The answers of a table: places, ids and perhaps scores. With `exact`, boxes and windows in floats, those that don't meet
+        are left out."""
+        places, ids, scores = bytearray(), bytearray(), bytearray() if has_scores else None
+        count = 0
+        with self._named_errors():
+            for place, part in self.parts():
+                count = table._find_each(part, place, len(self), places, ids, scores, count, *exact)
+        return _numbers_of(places, count), _numbers_of(ids, count), None if scores is None else _scores_of(scores, count)
+
+    def counted_in(self, table: _engine.Table) -> NDArray[Any]:
+        """How many boxes of a table each query accepts."""
+        counts = numpy.empty(len(self), "u8")
+        with self._named_errors():
+            for place, part in self.parts():
+                counts[place : place + len(part)] = numpy.frombuffer(table._count_each(part, place), "u8")
+        return counts
+
     def parts(self) -> Iterator[tuple[int, NDArray[Any]]]:
         """The place of the first query of each part, and the part. Raises QueryError for a number out of range, once the
         queries before it were given."""
@@ -209,7 +253,16 @@ class Queries:
                 some["near_x"], some["near_y"] = some["x"], some["y"]
             yield begin, some
             if beyond is not None:
-                raise QueryError(self.at(begin + count), begin + count, "Q6", "out of range")
+                raise QueryError(None, begin + count, "Q6", "out of range")
+
+    @contextmanager
+    def _named_errors(self) -> Iterator[None]:
+        """A block whose QueryError gets the region at its place."""
+        try:
+            yield
+        except QueryError as error:
+            assert error.place is not None
+            raise QueryError(self.at(error.place), error.place, error.code, error.text) from None
 
     def at(self, place: int) -> object:
         """The region at a place."""
@@ -244,13 +297,13 @@ def queries_of(windows: Any, bounds: Any, region: type, order: Order | None, fir
     return Queries(region, columns, order, first, on)
 
 
-def numbers_of(buffer: bytearray, format: str, count: int) -> NDArray[Any]:
-    """The first numbers in a buffer, whose rest is freed."""
-    del buffer[count * numpy.dtype(format).itemsize :]
-    return numpy.frombuffer(buffer, format)
+def _numbers_of(buffer: bytearray, count: int) -> NDArray[Any]:
+    """The first numbers of 64 bits in a buffer, whose rest is freed."""
+    del buffer[8 * count :]
+    return numpy.frombuffer(buffer, "i8")
 
 
-def scores_of(buffer: bytearray, count: int) -> NDArray[Any]:
+def _scores_of(buffer: bytearray, count: int) -> NDArray[Any]:
     """Scores as unsigned numbers of 64 bits, or as objects if one has more bits."""
     low, high = numpy.frombuffer(buffer, "u8", 2 * count).reshape(-1, 2).T
     scores: NDArray[Any] = low + (high.astype(object) << 64) if high.any() else low.copy()

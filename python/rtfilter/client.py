@@ -5,8 +5,8 @@ import select
 import socket
 import threading
 import time
-from collections.abc import Iterable
-from contextlib import suppress
+from collections.abc import Iterable, Iterator
+from contextlib import contextmanager, suppress
 from typing import Any, Union
 
 from .calls import SingleCalls
@@ -94,9 +94,9 @@ class Client(SingleCalls):
     """A table that a service holds. The calls are those of `Rtfilter`.
 
     Threads may share a client, whose connection answers one call at a time. `timeout` is how many seconds a call may take,
-    with all of its waits. A call that ends early closes the connection, and the next call reconnects; so does one after the
-    service closed it. Raises OSError if there is no service, Disconnected if it closes the connection during a call,
-    TimedOut if it doesn't answer in time, and RuntimeError in a child of a fork.
+    with all of its waits, but for the look-up of a host's name. A call that ends early closes the connection, and the next call
+    reconnects; so does one after the service closed it. Raises OSError if there is no service, Disconnected if it closes the
+    connection during a call, TimedOut if it doesn't answer in time, and RuntimeError in a child of a fork.
     """
 
     def __init__(self, address: Address, timeout: float | None = None) -> None:
@@ -231,11 +231,19 @@ def name_of(address: Address) -> str:
     return os.fspath(address)
 
 
-def named(error: OSError, address: Address) -> OSError:
-    """An error with the address, if it is one of the system: else its text says all."""
-    if error.errno:
-        error.filename = name_of(address)
-    return error
+@contextmanager
+def connecting_to(address: Address) -> Iterator[None]:
+    """A block that connects: its errors name the address."""
+    try:
+        yield
+    except TimedOut:
+        raise
+    except TimeoutError:
+        raise TimedOut(f"no connection to {name_of(address)} in time") from None
+    except OSError as error:
+        if error.errno:  # (else its text says all)
+            error.filename = name_of(address)
+        raise
 
 
 def is_readable(file: Any) -> bool:
@@ -247,18 +255,12 @@ def is_readable(file: Any) -> bool:
 
 def connected(address: Address, deadline: Deadline) -> socket.socket:
     """A socket that is connected, by the first address of a host that takes it. Raises OSError with the address."""
-    try:
+    with connecting_to(address):
         *others, last = _places_of(address)
         for family, place in others:
             with suppress(OSError):
                 return _connected(family, place, deadline)
         return _connected(*last, deadline)
-    except TimedOut:
-        raise
-    except TimeoutError:
-        raise TimedOut(f"no connection to {name_of(address)} in time") from None
-    except OSError as error:
-        raise named(error, address)
 
 
 def _places_of(address: Address) -> list[tuple[int, Any]]:

@@ -24,7 +24,7 @@ from . import arrays, merging
 from .arrays import BOUNDS, Nearest, Queries
 from .geometry import STRtree, bounds_of, objects
 from .merging import Rows
-from .regions import Layers, Order, Window
+from .regions import Layers, Order, Window, repeatable
 from .table import MOST_ENTRIES, Rtfilter
 
 Frame = Any  # of pandas, geopandas or dask, which have no types here
@@ -74,6 +74,9 @@ class Table:
         self._settings: dict[str, Any] = {"header": header, "fanout": fanout, "max_entries": max_entries}
         self._stamp = _stamp_of(self._file)
 
+    def __dask_tokenize__(self) -> Any:
+        return type(self).__name__, self._file, self._settings, self._stamp
+
     @property
     def table(self) -> Rtfilter:
         """The table, in this process."""
@@ -91,7 +94,7 @@ class Table:
     ) -> Frame:
         """The column `id` of the boxes that each region accepts, with the index of the region, in order. The columns of `frame`
         are the numbers of the region: min_x, max_x, min_y and max_y of a window; x, y and radius of a circle."""
-        return self._answers(frame, IDS, partial(_regions, region, order, first, on), _with_ids)
+        return self._answers(frame, IDS, _asking(region, order, first, on), _with_ids)
 
     def nearest(self, frame: Frame, k: int) -> Frame:
         """The columns `id` and `score`, the square of the distance, of the k boxes nearest to each point (x, y)."""
@@ -99,13 +102,13 @@ class Table:
 
     def count(self, frame: Frame, region: type = Window, *, on: Layers | None = None) -> Frame:
         """A series, `count`: how many boxes each region accepts."""
-        ask = partial(_regions, region, None, None, on)
+        ask = _asking(region, None, None, on)
         ask(_meta_of(frame))
-        return frame.map_partitions(_counted_whole, self, ask, meta=COUNTS)
+        return frame.map_partitions(_counted_whole, self, ask, meta=_indexed_as(frame, COUNTS))
 
     def _answers(self, frame: Frame, meta: Frame, ask: Ask, gather: Gather) -> Frame:
         ask(_meta_of(frame))  # raises for a column that isn't there before anything is computed
-        return frame.map_partitions(_found_whole, self, ask, gather, meta=meta)
+        return frame.map_partitions(_found_whole, self, ask, gather, meta=_indexed_as(frame, meta))
 
 
 class Boxes:
@@ -166,7 +169,7 @@ class Boxes:
         if self._is_whole:
             if predicate is not None:
                 raise TypeError("a predicate is for geometries")
-            return partial(_regions, region, order, first, on)
+            return _asking(region, order, first, on)
         if (region, order, first, on) != (Window, None, None, None):
             raise TypeError("boxes in floats have windows and geometries, and no other region, order, limit or layers")
         return partial(_shapes, predicate)
@@ -220,7 +223,7 @@ class FloatPart:
         self.frame = frame.sort_values("id", ignore_index=True)
         self.ids = arrays.ids_of(numpy.asanyarray(self.frame["id"]), "id")
         is_bare = GEOMETRY not in frame.columns
-        self.tree = STRtree.from_bounds(self.frame[[*BOUNDS]].to_numpy("f8")) if is_bare else STRtree(self.frame)
+        self.tree = STRtree.from_bounds(self.frame[[*BOUNDS]]) if is_bare else STRtree(self.frame)
         self.bounds = self.tree.bounds
 
     def __reduce__(self) -> Any:
@@ -290,6 +293,11 @@ def _sides_of(frame: Frame) -> Sequence[str]:
     return [GEOMETRY] if GEOMETRY in getattr(frame, "columns", ()) else BOUNDS
 
 
+def _asking(region: type, order: Order | None, first: int | None, on: Layers | None) -> Ask:
+    """What makes queries of the regions of a partition, again and again."""
+    return partial(_regions, region, order, first, repeatable(on))
+
+
 def _regions(region: type, order: Order | None, first: int | None, on: Layers | None, frame: Frame) -> Queries:
     return arrays.queries_of(frame, None, region, order, first, on)
 
@@ -304,7 +312,7 @@ def _shapes(predicate: str | None, frame: Frame) -> Shapes:
         return Shapes(numpy.asarray(bounds_of(geometries), "f8").reshape(-1, 4), geometries, predicate)
     if predicate is not None:
         raise TypeError("a predicate is for geometries")
-    return Shapes(frame[[*BOUNDS]].to_numpy("f8"), None, None)
+    return Shapes(arrays.floats_of(frame[[*BOUNDS]], "frame", BOUNDS), None, None)
 
 
 def _found_whole(frame: Frame, table: Table, ask: Callable[[Frame], Queries], gather: Gather) -> Frame:
@@ -376,7 +384,12 @@ def _without_geometry(frame: Frame) -> Frame:
 def _collected(frame: Frame, meta: Frame, work: Callable[[Frame], Any]) -> Frame:
     """A dask dataframe of what is made of each partition of another one."""
     made = [work(it) for it in frame.to_delayed()]
-    return dask.dataframe.from_delayed(made, meta=meta, divisions=frame.divisions, verify_meta=False)
+    return dask.dataframe.from_delayed(made, meta=_indexed_as(frame, meta), divisions=frame.divisions, verify_meta=False)
+
+
+def _indexed_as(frame: Frame, meta: Frame) -> Frame:
+    """The columns of answers, with the kind and the name of the index of a dask dataframe."""
+    return meta.set_axis(frame._meta.index)
 
 
 def _know_geometries(dtype: Any) -> None:
@@ -390,10 +403,8 @@ def _know_geometries(dtype: Any) -> None:
 
 def _centres(frame: Frame) -> Frame:
     """The centres of boxes or geometries; those without bounds lie at 0."""
-    if GEOMETRY in frame.columns:
-        rows = numpy.nan_to_num(numpy.asarray(bounds_of(objects(frame)), "f8").reshape(-1, 4))
-    else:
-        rows = frame[[*BOUNDS]].to_numpy("f8")
+    bounds = bounds_of(objects(frame)) if GEOMETRY in frame.columns else frame[[*BOUNDS]].to_numpy("f8")
+    rows = numpy.nan_to_num(numpy.asarray(bounds, "f8").reshape(-1, 4))
     return pandas.DataFrame({"x": rows[:, 0] / 2 + rows[:, 2] / 2, "y": rows[:, 1] / 2 + rows[:, 3] / 2}, index=frame.index)
 
 

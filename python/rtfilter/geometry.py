@@ -7,6 +7,7 @@ from typing import Any, Self
 import numpy
 import shapely
 from numpy.typing import NDArray
+from shapely.geometry.base import BaseGeometry
 
 from .arrays import BOUNDS, floats_of
 from .floats import FloatBoxes, Floats, Places, rows_of, widened
@@ -43,7 +44,7 @@ class STRtree:
     @classmethod
     def from_bounds(cls, bounds: Any) -> Self:
         """A tree of rows (min_x, min_y, max_x, max_y) alone, or of a frame with these columns, for `query_bounds` and `query` without a
-        predicate."""
+        predicate. Whole numbers become floats as by `float`."""
         tree = cls.__new__(cls)
         tree.geometries = None
         tree._boxes = FloatBoxes(rows_of(bounds, "bounds").copy())  # (which no caller changes)
@@ -148,7 +149,7 @@ def objects(geometries: Any) -> Objects:
     listed = list(given)
     found = numpy.empty(len(listed), object)
     for at, it in enumerate(listed):
-        if it is not None and not hasattr(it, "geom_type"):
+        if it is not None and not isinstance(it, BaseGeometry):
             raise TypeError(f"geometries[{at}]: {it!r:.50} is no geometry")
         found[at] = it
     return found
@@ -156,7 +157,7 @@ def objects(geometries: Any) -> Objects:
 
 def inputs_of(geometry: Any) -> tuple[bool, Objects]:
     """Whether it is a single geometry, and it or all of them as an array."""
-    is_single = geometry is None or (hasattr(geometry, "geom_type") and not hasattr(geometry, "index"))
+    is_single = geometry is None or isinstance(geometry, BaseGeometry)
     return is_single, objects([geometry] if is_single else geometry)
 
 

@@ -169,6 +169,11 @@ def layer_bits(on: Layers) -> int:
     return bits
 
 
+def repeatable(on: Layers | None) -> Layers | None:
+    """Layers that can be read more than once, as several tables do."""
+    return [*on] if isinstance(on, Iterator) else on
+
+
 def _checked(value: Region | Order, kind: str) -> Region | Order:
     if type(value) not in (ORDERS if kind == "order" else REGIONS):
         raise TypeError(f"{value!r} is no {kind}")

@@ -2,8 +2,7 @@
 
 import os
 from array import array
-from collections.abc import Iterable, Iterator
-from contextlib import contextmanager
+from collections.abc import Iterable
 from itertools import islice
 from typing import TYPE_CHECKING, Any, NoReturn, Self
 
@@ -54,15 +53,9 @@ class Rtfilter(_engine.Table, Closable, BulkCalls):
     ) -> Self:
         """A table of rows (min_x, min_y, max_x, max_y), the order of shapely's `bounds`: an array of shape (n, 4), a frame with
         these columns, or a list. Without `ids`, the id of a box is its place, from 0."""
-        import numpy
-
         from . import arrays
 
-        min_x, min_y, max_x, max_y = arrays.columns_of(bounds, "bounds", arrays.BOUNDS)
-        columns = [numpy.arange(len(min_x)) if ids is None else _column(ids, "ids", len(min_x)), min_x, max_x, min_y, max_y]
-        if layers is not None:
-            columns.append(_column(layers, "layers", len(min_x)))
-        return cls._open_columns(columns, fanout, max_entries)
+        return cls._open_columns(arrays.columns_of_bounds(bounds, ids, layers), fanout, max_entries)
 
     @classmethod
     def _open_named(cls, name: "str | bytes | os.PathLike[str]", header: bool, fanout: int, max_entries: int) -> Self:
@@ -139,48 +132,8 @@ class Rtfilter(_engine.Table, Closable, BulkCalls):
         texts = listed(lines)
         return cut(self._text(joined(texts)), texts)
 
-    def _counted(self, queries: "Queries") -> "NDArray[Any]":
-        import numpy
-
-        from . import arrays
-
-        counts = [numpy.empty(0, "u8")]
-        for place, part in queries.parts():
-            with _named(queries):
-                buffer = self._count_each(part, place)
-            counts.append(arrays.numbers_of(buffer, "u8", len(part)))
-        return numpy.concatenate(counts)
-
     def _found(self, queries: "Queries", has_scores: bool, exact: tuple[Any, ...] = ()) -> tuple[Any, Any, Any]:
-        """Places, ids and perhaps scores. With `exact`, boxes and windows in floats, answers that don't meet are left out."""
-        from . import arrays
+        return queries.found_in(self, has_scores, exact)
 
-        places, ids, scores = bytearray(), bytearray(), bytearray() if has_scores else None
-        count = 0
-        for place, part in queries.parts():
-            with _named(queries):
-                count = self._find_each(part, place, len(queries), places, ids, scores, count, *exact)
-        numbers = arrays.numbers_of(places, "i8", count), arrays.numbers_of(ids, "i8", count)
-        return *numbers, None if scores is None else arrays.scores_of(scores, count)
-
-
-@contextmanager
-def _named(queries: "Queries") -> Iterator[None]:
-    """Gives a QueryError of the extension the region at its place."""
-    try:
-        yield
-    except QueryError as error:
-        assert error.place is not None
-        raise QueryError(queries.at(error.place), error.place, error.code, error.text) from None
-
-
-def _column(values: Any, what: str, count: int) -> "NDArray[Any]":
-    """A column of whole numbers, as many as there are boxes."""
-    import numpy
-
-    from . import arrays
-
-    column = numpy.asanyarray(values)
-    if column.shape != (count,):
-        raise TypeError(f"{what}: the shape is {column.shape}, and not ({count},)")
-    return arrays.whole(column, what) if count else numpy.empty(0, "i8")
+    def _counted(self, queries: "Queries") -> "NDArray[Any]":
+        return queries.counted_in(self)

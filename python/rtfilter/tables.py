@@ -9,7 +9,7 @@ from typing import TYPE_CHECKING, Any, NoReturn
 from .calls import BulkCalls, SingleCalls
 from .client import Client
 from .errors import QueryError
-from .regions import All, Circle, Covers, Inside, Layers, Near, Order, Polygon, Region, Window
+from .regions import All, Circle, Covers, Inside, Layers, Near, Order, Polygon, Region, Window, repeatable
 from .table import Rtfilter
 
 if TYPE_CHECKING:
@@ -69,7 +69,7 @@ class Tables(SingleCalls, BulkCalls):
             it.close()
 
     def _find(self, region: Region, order: Order | None, first: int | None, on: Layers | None, scores: bool) -> list[Any]:
-        members = self._overlapping(region)
+        members, on = self._overlapping(region), repeatable(on)
         if len(members) == 1:
             found: list[Any] = members[0][0].find(region, order, first, on=on, scores=scores)
             return found
@@ -85,6 +85,7 @@ class Tables(SingleCalls, BulkCalls):
         return _by_distance(self._overlapping(All()), x, y, k, lambda it: it.nearest(k, x, y))
 
     def count(self, region: Region, *, on: Layers | None = None) -> int:
+        on = repeatable(on)
         return sum([it.count(region, on=on) for it, _ in self._overlapping(region)])
 
     def levels(self) -> NoReturn:

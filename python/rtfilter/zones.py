@@ -8,6 +8,7 @@ import numpy
 from numpy.typing import NDArray
 
 from . import _engine, arrays
+from .floats import rounding
 from .regions import Covers
 from .table import Rtfilter
 
@@ -81,8 +82,8 @@ class Zones:
 
     def _whole_number(self, number: float) -> int:
         """One coordinate in whole numbers: in less time than an array of it."""
-        scaled = number if self._scale is None else number * self._scale
         try:
+            scaled = number if self._scale is None else number * self._scale
             whole = math.floor(scaled)
         except (ValueError, OverflowError):
             raise ValueError("a coordinate that isn't finite") from None
@@ -105,7 +106,8 @@ class Zones:
 
     def _whole(self, numbers: NDArray[numpy.float64]) -> NDArray[Any]:
         """Coordinates in whole numbers of 32 bits."""
-        floats = numbers * (self._scale or 1.0)
+        with rounding():
+            floats = numbers * (self._scale or 1.0)
         if not numpy.isfinite(floats).all():
             raise ValueError("a coordinate that isn't finite")
         whole = numpy.floor(floats)

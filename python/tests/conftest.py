@@ -2,10 +2,13 @@
 
 import asyncio
 import contextlib
+import os
 import random
+import signal
 import subprocess
 import tempfile
 from collections.abc import Callable, Iterator
+from concurrent.futures import ThreadPoolExecutor
 from pathlib import Path
 from typing import Any, Self
 
@@ -18,9 +21,7 @@ from support import PROGRAM as PROGRAM, ROOT
 from rtfilter import All, Circle, Client, Covers, Inside, Near, Polygon, QueryError, Rtfilter, Smallest, Window, aio
 from rtfilter.regions import count_line, find_line, nearest_line
 
-Run = Callable[[Path, bytes], bytes]
 Serve = Callable[..., Served]
-Random = Callable[[random.Random], bytes]
 Connect = Callable[..., Any]
 
 
@@ -78,6 +79,46 @@ def given_by(boxes: Any, call: Callable[[Any], Any]) -> Any:
         return error.code, error.text
 
 
+def written_by_program(table: Path, lines: bytes) -> bytes:
+    """What the program writes for lines over a table."""
+    return subprocess.run([PROGRAM, table], input=lines, capture_output=True, timeout=120).stdout
+
+
+def sound_table(chance: random.Random) -> bytes:
+    """A random table without a fault, as CSV."""
+    while True:
+        text: bytes = random_runs.some_table(chance)
+        if not isinstance(reading.boxes(text, False, 2**24), bytes):
+            return text
+
+
+def in_threads(count: int, work: Callable[[int], Any]) -> list[Any]:
+    """What threads return that work at the same time, by their numbers. Raises what one of them raises."""
+    with ThreadPoolExecutor(count) as threads:
+        return [*threads.map(work, range(count))]
+
+
+def in_child(work: Callable[[], bool]) -> bool:
+    """Whether something holds in a child of a fork."""
+    child = os.fork()
+    if child == 0:
+        status = 1
+        try:
+            status = int(not work())
+        finally:
+            os._exit(status)
+    return os.waitpid(child, 0)[1] == 0
+
+
+@pytest.fixture
+def own_alarms() -> Iterator[None]:
+    """The handler of SIGALRM is put back."""
+    before = signal.getsignal(signal.SIGALRM)
+    yield
+    signal.setitimer(signal.ITIMER_REAL, 0)
+    signal.signal(signal.SIGALRM, before)
+
+
 @pytest.fixture
 def data() -> Path:
     """The tables of the pages."""
@@ -88,40 +129,6 @@ def data() -> Path:
 def boxes(data: Path) -> Iterator[Rtfilter]:
     with Rtfilter(data / "boxes.csv") as table:
         yield table
-
-
-@pytest.fixture
-def run() -> Run:
-    """What the program writes for lines over a table."""
-
-    def run(table: Path, lines: bytes) -> bytes:
-        return subprocess.run([PROGRAM, table], input=lines, capture_output=True, timeout=120).stdout
-
-    return run
-
-
-@pytest.fixture
-def sound_table() -> Random:
-    """A random table without a fault, as CSV."""
-
-    def sound_table(chance: random.Random) -> bytes:
-        while True:
-            text: bytes = random_runs.some_table(chance)
-            if not isinstance(reading.boxes(text, False, 2**24), bytes):
-                return text
-
-    return sound_table
-
-
-@pytest.fixture
-def some_line() -> Random:
-    """A random query line, sound or faulty."""
-
-    def some_line(chance: random.Random) -> bytes:
-        line: bytes = random_runs.some_line(chance)
-        return line
-
-    return some_line
 
 
 @pytest.fixture

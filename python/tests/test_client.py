@@ -1,6 +1,7 @@
 """A service over its socket: its ends, its silence, its absence."""
 
 import asyncio
+import errno
 import math
 import os
 import pickle
@@ -17,7 +18,7 @@ from typing import Any
 
 import numpy
 import pytest
-from conftest import Connect, Serve
+from conftest import Connect, Serve, in_child, in_threads
 
 from rtfilter import All, Client, Disconnected, QueryError, Rtfilter, RtfilterError, Tables, TimedOut, Window, aio
 
@@ -94,15 +95,6 @@ def alarm(fake: Fake, call: Callable[[], None]) -> None:
 
     signal.signal(signal.SIGALRM, handle)
     signal.setitimer(signal.ITIMER_REAL, 0.05, 0.05)
-
-
-@pytest.fixture
-def own_alarms() -> Iterator[None]:
-    """The handler of SIGALRM is put back."""
-    before = signal.getsignal(signal.SIGALRM)
-    yield
-    signal.setitimer(signal.ITIMER_REAL, 0)
-    signal.signal(signal.SIGALRM, before)
 
 
 @pytest.fixture(params=["unix", "tcp"])
@@ -196,6 +188,17 @@ def test_a_service_that_takes_no_connections(connect: Connect, full: Any, monkey
     with pytest.raises(TimedOut, match="0.8 seconds|in time"), connect(full, timeout=0.8) as client:
         client.count(All())
     assert 0.7 < time.monotonic() - begun < 2.2
+
+
+def test_a_connection_that_the_system_gives_up(connect: Connect, monkeypatch: pytest.MonkeyPatch) -> None:
+    """It says that there was no connection, and no reply that was awaited without end."""
+
+    def give_up(*_: Any) -> None:
+        raise TimeoutError(errno.ETIMEDOUT, "Connection timed out")
+
+    monkeypatch.setattr(socket.socket, "connect", give_up)
+    with pytest.raises(TimedOut, match=r"^no connection to 127\.0\.0\.1:7 in time$"), connect(("127.0.0.1", 7)) as client:
+        client.count(All())
 
 
 def test_a_host_with_several_addresses(connect: Connect, monkeypatch: pytest.MonkeyPatch, data: Path, serve: Serve) -> None:
@@ -296,22 +299,15 @@ def test_a_silent_service(connect: Connect, fake: Fake) -> None:
 
 def test_one_deadline_holds_for_the_turn_too(fake: Fake) -> None:
     fake.acts = [fake.be_silent] * 8
-    client = Client(fake.path, timeout=0.5)
-    raised: list[float] = []
+    with Client(fake.path, timeout=0.5) as client:
 
-    def ask() -> None:
-        begun = time.monotonic()
-        with pytest.raises(TimedOut):
-            client.find(All())
-        raised.append(time.monotonic() - begun)
+        def ask(_: int) -> float:
+            begun = time.monotonic()
+            with pytest.raises(TimedOut):
+                client.find(All())
+            return time.monotonic() - begun
 
-    threads = [threading.Thread(target=ask) for _ in range(8)]
-    for it in threads:
-        it.start()
-    for it in threads:
-        it.join()
-    assert len(raised) == 8 and max(raised) < 2
-    client.close()
+        assert max(in_threads(8, ask)) < 2
 
 
 def test_a_member_of_tables_that_drops(fake: Fake) -> None:
@@ -382,18 +378,13 @@ def test_a_call_in_the_middle_of_a_call(fake: Fake) -> None:
 
 
 def test_a_child_of_a_fork(client: Client) -> None:
-    assert client.count(All()) == 5
-    child = os.fork()
-    if child == 0:
-        status = 3
-        try:
+    def is_refused() -> bool:
+        with pytest.raises(RuntimeError, match="make another one after a fork"):
             client.count(All())
-        except RuntimeError:
-            status = 0
-        finally:
-            os._exit(status)
-    assert os.waitpid(child, 0)[1] == 0
+        return True
+
     assert client.count(All()) == 5
+    assert in_child(is_refused) and client.count(All()) == 5
 
 
 def test_closed(client: Client) -> None:
@@ -481,25 +472,19 @@ class Handing:
 
 def test_a_close_in_the_middle_of_calls(serve: Serve, data: Path, monkeypatch: pytest.MonkeyPatch) -> None:
     """A call is answered, or says that the client was closed, which leaves no connection open."""
-    path, wrong = serve(data / "boxes.csv").path, list[BaseException]()
+    path = serve(data / "boxes.csv").path
     for at in range(50):
         client = Client(path, timeout=20)
         monkeypatch.setattr(client, "_lock", Handing())
 
-        def ask() -> None:
-            try:
-                while True:
-                    assert client.count(All()) == 5
-            except ValueError as error:
-                assert str(error) == "the client was closed"
-            except BaseException as error:
-                wrong.append(error)
+        def work(number: int) -> None:
+            if number == 3:
+                time.sleep(0.0003 * at)
+                client.close()
+            else:
+                with pytest.raises(ValueError, match="^the client was closed$"):
+                    while True:
+                        assert client.count(All()) == 5
 
-        threads = [threading.Thread(target=ask) for _ in range(3)]
-        for it in threads:
-            it.start()
-        time.sleep(0.0003 * at)
-        client.close()
-        for it in threads:
-            it.join()
-        assert wrong == [] and client._connection is None
+        in_threads(4, work)
+        assert client._connection is None

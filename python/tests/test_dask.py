@@ -43,7 +43,7 @@ def frame_of(chance: random.Random, count: int, span: int = 40) -> pandas.DataFr
 def queries_of(chance: random.Random, count: int) -> pandas.DataFrame:
     frame = frame_of(chance, count)[SIDES]
     frame["x"], frame["y"], frame["radius"] = frame["min_x"], frame["min_y"], [chance.choice([0, 4, 30]) for _ in range(count)]
-    frame.index = [f"query {at // 2}" for at in range(count)]  # not distinct
+    frame.index = pandas.Index([f"query {at // 2}" for at in range(count)], name="query")  # not distinct
     return frame
 
 
@@ -85,6 +85,26 @@ def test_queries(kind: str, seed: int, tmp_path: Path) -> None:
     for k in (0, 1, 4, 1000):
         places, ids, scores = one.nearest_each(queries[["x", "y"]].to_numpy(), k)
         assert listed(tables.nearest(partitioned, k)) == [*zip(queries.index[places], ids.tolist(), scores.tolist())]
+
+
+def test_the_index_of_answers(tmp_path: Path) -> None:
+    """It is that of the queries, by its name too, before anything is computed."""
+    chance = random.Random(3)
+    boxes, queries = frame_of(chance, 50), dataframe.from_pandas(queries_of(chance, 20), npartitions=2, sort=False)
+    (tmp_path / "boxes.csv").write_text("".join(f"{','.join(map(str, it))}\n" for it in rows_of(boxes).tolist()))
+    for tables in (Table(tmp_path / "boxes.csv"), Boxes(dataframe.from_pandas(boxes, npartitions=2))):
+        for found, names in ((tables.query(queries), ["id"]), (tables.nearest(queries, 2), ["id", "score"]), (tables.count(queries), ["count"])):
+            flat = found.reset_index()
+            assert [*flat.columns] == [*flat.compute().columns] == ["query", *names]
+
+
+def test_layers_that_are_read_once() -> None:
+    chance = random.Random(4)
+    boxes, queries = frame_of(chance, 90), queries_of(chance, 30)
+    tables, partitioned = Boxes(dataframe.from_pandas(boxes, npartitions=2)), dataframe.from_pandas(queries, npartitions=3, sort=False)
+    pairs = expected(Rtfilter(rows_of(boxes)), queries, on=[1, 63])
+    assert listed(tables.query(partitioned, on=iter([1, 63]))) == pairs
+    assert tables.count(partitioned, on=(it for it in (1, 63))).compute().sum() == len(pairs) == len(tables.join(partitioned, on=iter([1, 63])).compute())
 
 
 def test_scores_of_65_bits() -> None:
@@ -161,9 +181,12 @@ def test_a_file_that_has_changed(tmp_path: Path) -> None:
     before = Table(file)
     pickled = pickle.dumps(before)
     assert before.table.count(Window(0, 9, 0, 9)) == 1 and before.table is pickle.loads(pickled).table
+    queries = dataframe.from_pandas(queries_of(random.Random(1), 5), npartitions=2, sort=False)
+    names = [it.query(queries, first=first).dask.layers.keys() for it in (before, Table(file)) for first in (1, 2)]
+    assert names[:2] == names[2:] and names[0] != names[1]  # (so that dask computes equal queries once)
     file.write_text("1,0,1,0,1\n2,0,1,0,1\n")
     after = Table(file)
-    assert len(after.table) == 2
+    assert len(after.table) == 2 and after.query(queries, first=1).dask.layers.keys() not in names
     with pytest.raises(ValueError, match="has changed"):
         pickle.loads(pickled).table
     os.remove(file)
@@ -197,6 +220,7 @@ def test_what_is_refused(tmp_path: Path) -> None:
         (lambda: spatial_shuffle(frame.drop(columns="min_x"), 2), TypeError, "frame: there is no column min_x among max_x"),
         (lambda: spatial_shuffle(frame, 0), ValueError, "partitions are 1 or more, and not 0"),
         (lambda: tables.join(turned.assign(min_x_right=7)), ValueError, "two columns are called min_x_right"),
+        (lambda: Boxes(frame.assign(min_x="7")), TypeError, "bounds: '7' is no number"),
     ]
     for call, error, words in wrong:
         with pytest.raises(error, match=words):
@@ -206,10 +230,14 @@ def test_what_is_refused(tmp_path: Path) -> None:
     assert again.frame.equals(part.frame) and again.bounds == part.bounds and size_of(part) > 36 * 20
 
 
-def test_partitions_are_compact() -> None:
+@pytest.mark.parametrize("has_gaps", [False, True])
+def test_partitions_are_compact(has_gaps: bool) -> None:
+    """Also with boxes that have no numbers."""
     chance = numpy.random.default_rng(8)
     low = chance.integers(0, 10**6, (20_000, 2))
     boxes = pandas.DataFrame({"id": range(20_000), "min_x": low[:, 0], "max_x": low[:, 0] + 9, "min_y": low[:, 1], "max_y": low[:, 1] + 9})
+    if has_gaps:
+        boxes[SIDES] = boxes[SIDES].where(boxes["id"] % 100 > 0)
     shuffled = spatial_shuffle(dataframe.from_pandas(boxes, npartitions=5), 6)
     parts = [it.compute() for it in shuffled.to_delayed()]
     assert len(parts) == 6 and sorted(pandas.concat(parts)["id"]) == [*range(20_000)]

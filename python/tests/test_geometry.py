@@ -78,6 +78,8 @@ def test_bounds_by_their_names() -> None:
         (frame.assign(min_x=1), "bounds: the columns minX and min_x are both min_x"),
         (masked, "bounds: a number is masked"),
         ([("0", "0", "1", "1")], "bounds: numbers are <U1"),
+        (frame.astype({"max_x": str}), "bounds: '1.5' is no number"),
+        (frame.astype({"max_x": object}).replace(1.5, pandas.NA), "bounds: float() argument must be"),
         ([(0, 0, 1, 1), (0, 0, 1)], "bounds: rows of different lengths"),
     ]
     for wrong, words in refused:
@@ -189,7 +191,8 @@ def test_ways_in_and_out() -> None:
         tree = STRtree(given)
         assert len(tree) == 2 and tree.query(Point(1, 1)).tolist() == [0, 2]
         assert tree.query(Point(1, 1), "within").tolist() == [0, 2] and tree.query(None).tolist() == []
-        assert tree.query(frame).tolist() == [[0, 0, 2, 2], [0, 2, 0, 2]]
+        for some in (frame, frame.geometry, frame.geometry.values, held):
+            assert tree.query(some).tolist() == [[0, 0, 2, 2], [0, 2, 0, 2]]
     copy = pickle.loads(pickle.dumps(STRtree(held)))
     assert copy.query([Point(1, 1), None], "intersects").tolist() == [[0, 0], [0, 2]]
     copy = pickle.loads(pickle.dumps(STRtree.from_bounds([(0, 0, 1.5, 1.5), (numpy.nan,) * 4])))
@@ -205,6 +208,7 @@ def test_ways_in_and_out() -> None:
         (lambda it: it.query(Point(0, 0), distance=3), "a distance goes with the predicate dwithin"),
         (lambda it: it.query_nearest(Point(0, 0), max_distance=0), "max_distance is above 0"),
         (lambda it: it.query_bounds((0, 0, numpy.inf, 1)), "bounds: infinite bounds at place 0"),
+        (lambda it: it.query_bounds((0, 0, 10**400, 1)), "bounds: a number is out of the range of floats"),
         (lambda it: STRtree.from_bounds([(0, 0, 1, 1), (0, -numpy.inf, 1, 1)]), "bounds: infinite bounds at place 1"),
         (lambda it: STRtree.from_bounds([(0, 0, 1, 1), (0, 2, 1, 1)]), "bounds: a minimum above its maximum at place 1"),
         (lambda it: STRtree.from_bounds([(0, 0, 1, 1)]).query_nearest(Point(0, 0)), "has no geometries"),
@@ -215,10 +219,23 @@ def test_refused(call: Any, words: str) -> None:
     with pytest.raises(ValueError) as raised:
         call(STRtree([Point(0, 0)]))
     assert words in str(raised.value)
-    with pytest.raises(TypeError):
-        STRtree.from_bounds([(0, 0, 1)])
-    with pytest.raises(TypeError, match=r"^geometries\[1\]: 5 is no geometry$"):
-        STRtree([None, 5])
+
+
+@pytest.mark.parametrize(
+    "call, words",
+    [
+        (lambda: STRtree.from_bounds([(0, 0, 1)]), "bounds: the shape is (1, 3), and not (n, 4)"),
+        (lambda: STRtree(5), "geometries are an array, a series, a frame or a list, and not 5"),
+        (lambda: STRtree([None, 5]), "geometries[1]: 5 is no geometry"),
+        (lambda: STRtree([FRAME.geometry]), "geometries[0]: "),
+        (lambda: sjoin(FRAME.geometry, FRAME), "left is a GeoDataFrame, and not GeoSeries"),
+        (lambda: sjoin(FRAME, []), "right is a GeoDataFrame, and not list"),
+    ],
+)
+def test_other_types(call: Any, words: str) -> None:
+    with pytest.raises(TypeError) as raised:
+        call()
+    assert str(raised.value).startswith(words)
 
 
 @pytest.mark.parametrize("how", ["inner", "left", "right"])
@@ -236,9 +253,9 @@ def test_joins_are_those_of_geopandas(how: str, predicate: str) -> None:
     ]
     for index, other in indexes:
         columns = {"n": range(40), "a": 1.5, "n_right": 7, "kind": pandas.Categorical(["p", "q"] * 20)}
-        left = geopandas.GeoDataFrame(columns, geometry=some_geometries(chance, 40), index=index)
+        left = geopandas.GeoDataFrame(columns, geometry=some_geometries(chance, 40), index=index, crs=4326)
         columns = {"n": range(30), "b": "x", "some": pandas.array([1, None] * 15, "Int64"), "sort": pandas.Categorical(["r", "s", "t"] * 10)}
-        right = geopandas.GeoDataFrame(columns, geometry=some_geometries(chance, 30), index=other)
+        right = geopandas.GeoDataFrame(columns, geometry=some_geometries(chance, 30), index=other, crs=4326)
         with warnings.catch_warnings():
             warnings.simplefilter("ignore")
             expected = geopandas.sjoin(left, right, how=how, predicate=predicate)
@@ -247,7 +264,7 @@ def test_joins_are_those_of_geopandas(how: str, predicate: str) -> None:
         for one, other in zip(found.dtypes, expected.dtypes, strict=True):
             assert one == other or how == "right" and {one.kind, other.kind} == {"i", "f"}  # (geopandas makes floats of a second n_right)
         assert listed(found) == listed(expected)
-        assert found.geometry.name == expected.geometry.name
+        assert found.geometry.name == expected.geometry.name and found.crs == expected.crs
         pairs += len(found)
     assert pairs > 10
 
@@ -270,12 +287,6 @@ def listed(frame: Any) -> list[str]:
     """The rows of a frame, in any order: pandas has None and NaN for what is missing."""
     rows = zip(frame.index, *(frame.iloc[:, at] for at in range(frame.shape[1])))
     return sorted(" ".join("-" if it is None or it is pandas.NA or it != it else str(it) for it in row) for row in rows)
-
-
-def test_what_is_no_frame() -> None:
-    for left, right, words in ((FRAME.geometry, FRAME, "left is a GeoDataFrame, and not GeoSeries"), (FRAME, [], "right is a GeoDataFrame, and not list")):
-        with pytest.raises(TypeError, match=words):
-            sjoin(left, right)
 
 
 def test_frames_with_different_crs() -> None:

@@ -137,6 +137,12 @@ def three() -> Iterator[Tables]:
         yield found
 
 
+def test_layers_that_are_read_once(three: Tables) -> None:
+    for first, order in ((None, None), (2, None), (None, Near(0, 0)), (3, Near(0, 0))):
+        assert three.find(All(), order, first, on=iter([0, 5])) == three.find(All(), order, first, on=[0, 5]) == [0, 1, 2][:first]
+    assert three.count(All(), on=(it for it in [0])) == 3
+
+
 def raised(call: Callable[[], object]) -> list[object]:
     with pytest.raises((QueryError, TypeError, ValueError, OverflowError)) as error:
         call()

@@ -3,7 +3,6 @@
 import asyncio
 import os
 import random
-import threading
 from collections.abc import Callable
 from pathlib import Path
 from typing import Any
@@ -11,7 +10,8 @@ from typing import Any
 import numpy
 import pandas
 import pytest
-from conftest import Calls, Connect, Random, Run, Serve, given_by
+from conftest import Calls, Connect, Serve, given_by, in_child, sound_table, written_by_program
+from random_runs import some_line
 
 from rtfilter import Answers, Circle, Covers, Inside, Near, QueryError, Rtfilter, Smallest, Window
 
@@ -20,12 +20,12 @@ CALLS = 1500
 
 
 @pytest.mark.parametrize("seed", range(TABLES))
-def test_lines(seed: int, tmp_path: Path, run: Run, sound_table: Random, some_line: Random) -> None:
+def test_lines(seed: int, tmp_path: Path) -> None:
     chance = random.Random(seed)
     table = tmp_path / "table"
     table.write_bytes(sound_table(chance))
     lines = [some_line(chance).replace(b"\n", b"") for _ in range(LINES)]
-    expected = run(table, b"\n".join(lines) + b"\n")
+    expected = written_by_program(table, b"\n".join(lines) + b"\n")
     with Rtfilter(table) as boxes:
         assert boxes.text(b"\n".join(lines)) == expected
         replies = boxes.replies(map(os.fsdecode, lines))
@@ -63,7 +63,7 @@ Case = tuple[Path, list[Callable[[Any], Any]], list[Any]]
 
 
 @pytest.fixture
-def case(tmp_path: Path, run: Run, sound_table: Random, request: pytest.FixtureRequest) -> Case:
+def case(tmp_path: Path, request: pytest.FixtureRequest) -> Case:
     """A table, calls, and what the program answers."""
     chance = random.Random(getattr(request, "param", 7))
     table = tmp_path / "table"
@@ -72,7 +72,7 @@ def case(tmp_path: Path, run: Run, sound_table: Random, request: pytest.FixtureR
         text = sound_table(chance)
     table.write_bytes(text)
     lines, calls = zip(*(Calls(chance, 12).some() for _ in range(CALLS)))
-    expected = expected_of(list(lines), run(table, "".join(f"{it}\n" for it in lines).encode()))
+    expected = expected_of(list(lines), written_by_program(table, "".join(f"{it}\n" for it in lines).encode()))
     assert len(expected) == CALLS and {type(it) for it in expected} == {list, int, tuple}
     return table, list(calls), expected
 
@@ -86,41 +86,19 @@ def test_calls(case: Case) -> None:
 
 def test_calls_of_threads(case: Case) -> None:
     table, calls, expected = case
-    found: list[Any] = [None] * 6
     with Rtfilter(table) as boxes:
 
-        def ask(at: int) -> None:
-            found[at] = [given_by(boxes, it) for it in calls]
+        async def ask() -> list[Any]:
+            some = [asyncio.to_thread(lambda: [given_by(boxes, it) for it in calls]) for _ in range(6)]
+            return await asyncio.gather(*some, *(asyncio.to_thread(given_by, boxes, it) for it in calls[:300]))
 
-        threads = [threading.Thread(target=ask, args=[at]) for at in range(len(found))]
-        for it in threads:
-            it.start()
-        for it in threads:
-            it.join()
-    assert found == [expected] * len(found)
-
-
-def test_calls_with_asyncio(case: Case) -> None:
-    table, calls, expected = case
-
-    async def ask(boxes: Rtfilter) -> list[Any]:
-        return await asyncio.gather(*(asyncio.to_thread(given_by, boxes, it) for it in calls[:300]))
-
-    with Rtfilter(table) as boxes:
-        assert asyncio.run(ask(boxes)) == expected[:300]
+        assert asyncio.run(ask()) == [expected] * 6 + expected[:300]
 
 
 def test_calls_in_a_child(case: Case) -> None:
     table, calls, expected = case
     with Rtfilter(table) as boxes:
-        child = os.fork()
-        if child == 0:
-            status = 3
-            try:
-                status = int([given_by(boxes, it) for it in calls] != expected)
-            finally:
-                os._exit(status)
-        assert os.waitpid(child, 0)[1] == 0
+        assert in_child(lambda: [given_by(boxes, it) for it in calls] == expected)
 
 
 def test_calls_of_a_client(case: Case, connect: Connect, serve: Serve) -> None:
@@ -129,7 +107,7 @@ def test_calls_of_a_client(case: Case, connect: Connect, serve: Serve) -> None:
         assert [given_by(boxes, it) for it in calls] == expected
 
 
-def test_lines_of_a_client(tmp_path: Path, run: Run, connect: Connect, serve: Serve, sound_table: Random, some_line: Random) -> None:
+def test_lines_of_a_client(tmp_path: Path, connect: Connect, serve: Serve) -> None:
     """Its connection goes on."""
     chance = random.Random(5)
     table = tmp_path / "table"
@@ -140,14 +118,14 @@ def test_lines_of_a_client(tmp_path: Path, run: Run, connect: Connect, serve: Se
         while lines:
             count = chance.choice([0, 1, 2, 30, 700])
             text = b"\n".join(lines[:count])
-            assert client.text(text) == boxes.text(text) == run(table, text)
+            assert client.text(text) == boxes.text(text) == written_by_program(table, text)
             assert [*map(str, client.replies(texts[:count]))] == [*map(str, boxes.replies(texts[:count]))]
             lines, texts = lines[count:], texts[count:]
         assert client.levels() == boxes.levels() and len(client) == len(boxes)
 
 
 @pytest.mark.parametrize("count", [1, 63, 64, 65, 500, 4095, 4097, 9001])
-def test_many_at_once(count: int, tmp_path: Path, run: Run, sound_table: Random) -> None:
+def test_many_at_once(count: int, tmp_path: Path) -> None:
     """Of every kind of query, by windows and by bounds."""
     chance = random.Random(count)
     table = tmp_path / "table"
@@ -158,7 +136,7 @@ def test_many_at_once(count: int, tmp_path: Path, run: Run, sound_table: Random)
         def answered(line: str, numbers: Any) -> Any:
             """What the program answers to a line for each of these rows: a list of pairs, or a number."""
             lines = [line.format(*it) for it in numbers.tolist()]
-            return expected_of(lines, run(table, "".join(f"{it}\n" for it in lines).encode()))
+            return expected_of(lines, written_by_program(table, "".join(f"{it}\n" for it in lines).encode()))
 
         for region, line in (
             (Window, "window {} {} {} {}"), (Inside, "inside {} {} {} {}"), (Covers, "covers {} {} {} {}"), (Circle, "circle {} {} {}"),

@@ -3,6 +3,7 @@
 import os
 import pickle
 import subprocess
+from collections.abc import Iterator
 from itertools import repeat
 from pathlib import Path
 from typing import Any
@@ -29,6 +30,20 @@ def fielded(rows: Any) -> Any:
     return fields
 
 
+class Columns:
+    """A frame that is no pandas': what it iterates over is its columns."""
+
+    def __init__(self, rows: Any) -> None:
+        self._columns = dict(zip(NAMES, numpy.array(rows).T))
+        self.columns = [*self._columns]
+
+    def __iter__(self) -> Iterator[Any]:
+        return iter(self._columns.values())
+
+    def __getitem__(self, name: str) -> Any:
+        return self._columns[name]
+
+
 WAYS: list[Any] = [
     ROWS,
     iter(ROWS),
@@ -43,6 +58,7 @@ WAYS: list[Any] = [
     pandas.DataFrame(ROWS, columns=NAMES)[NAMES[::-1]].assign(other="x"),
     pandas.DataFrame(ROWS, columns=["ID", "minX", "maxX", "minY", "maxY"], dtype="Int64"),
     fielded(ROWS),
+    Columns(ROWS),
     [(*row, 0) if row[0] % 2 else row for row in ROWS],
 ]
 
@@ -66,7 +82,9 @@ def test_bounds() -> None:
     with pytest.raises(TypeError, match=r"ids: the shape is \(1,\), and not \(2,\)"):
         Rtfilter.from_bounds(bounds, ids=[7])
     with pytest.raises(TypeError, match="layers: numbers are float64, and not whole"):
-        Rtfilter.from_bounds(bounds, layers=[1.0, 2.0])
+        Rtfilter.from_bounds(bounds, layers=numpy.array([1.0, 2.0]))
+    with pytest.raises(TypeError, match="layers: row 1: 2.0 isn't a whole number"):
+        Rtfilter.from_bounds(bounds, layers=[1, 2.0])
 
 
 def test_nothing() -> None:
@@ -180,9 +198,9 @@ def test_numbers_are_never_wrapped() -> None:
     for kind, number in (("i8", 2**32), ("u4", 2**31), ("u8", 2**63), ("i8", -(2**31) - 1)):
         with pytest.raises(TableError, match="out of range"):
             Rtfilter(numpy.array([(1, number, number, 0, 1)], kind))
-    for kind in ("u8", object):
+    for ids in (numpy.array([7, 2**63], "u8"), numpy.array([7, 2**63], object), [7, 2**63]):  # (of the list numpy makes floats)
         with pytest.raises(TableError, match="^table record 2: field 1 is out of range$"):
-            Rtfilter.from_bounds([(0, 0, 1, 1)] * 2, ids=numpy.array([7, 2**63], kind))
+            Rtfilter.from_bounds([(0, 0, 1, 1)] * 2, ids=ids)
 
 
 FRAME = pandas.DataFrame(ROWS, columns=NAMES)

@@ -1,6 +1,5 @@
 """Threads, forks, interrupts, and a close in the middle of calls."""
 
-import os
 import signal
 import threading
 import time
@@ -10,6 +9,7 @@ from typing import Any
 
 import numpy
 import pytest
+from conftest import in_child
 from support import LONGEST
 
 from rtfilter import All, Rtfilter, Tables, Window
@@ -69,20 +69,16 @@ def test_children_of_forks_in_the_middle_of_calls(table: Rtfilter, windows: Any)
         assert numpy.array_equal(table.find_each(windows)[1], ids)
         assert numpy.array_equal(table.count_each(windows), counts)
 
+    def is_right() -> bool:
+        return [table.find(it) for it in single[:20]] == expected[:20] and numpy.array_equal(table.find_each(windows)[1], ids)
+
     with threads_that(find, find, find, find_many, find_many) as raised:
         for _ in range(FORKS):
-            child = os.fork()
-            if child == 0:
-                status = 3
-                try:
-                    is_right = [table.find(it) for it in single[:20]] == expected[:20]
-                    status = int(not is_right or not numpy.array_equal(table.find_each(windows)[1], ids))
-                finally:
-                    os._exit(status)
-            assert os.waitpid(child, 0)[1] == 0
+            assert in_child(is_right)
     assert not raised
 
 
+@pytest.mark.usefixtures("own_alarms")
 @pytest.mark.parametrize("name", ["find_each", "nearest_each", "count_each", "holding_each", "Tables"])
 def test_a_signal_is_met_between_parts(table: Rtfilter, windows: Any, name: str) -> None:
     whole = numpy.tile([[0, SPAN, 0, SPAN]], (3000, 1))
@@ -99,18 +95,14 @@ def test_a_signal_is_met_between_parts(table: Rtfilter, windows: Any, name: str)
     def interrupt(*_: Any) -> None:
         raise KeyboardInterrupt
 
-    before = signal.signal(signal.SIGALRM, interrupt)
-    try:
-        for _ in range(3):
-            begun = time.monotonic()
-            with pytest.raises(KeyboardInterrupt):
-                signal.setitimer(signal.ITIMER_REAL, 0.05)
-                call()
-            assert time.monotonic() - begun < 1.5
-            assert table.find(Window(*windows[0].tolist())) == table.find_each(windows[:1])[1].tolist()
-    finally:
-        signal.setitimer(signal.ITIMER_REAL, 0)
-        signal.signal(signal.SIGALRM, before)
+    signal.signal(signal.SIGALRM, interrupt)
+    for _ in range(3):
+        begun = time.monotonic()
+        with pytest.raises(KeyboardInterrupt):
+            signal.setitimer(signal.ITIMER_REAL, 0.05)
+            call()
+        assert time.monotonic() - begun < 1.5
+        assert table.find(Window(*windows[0].tolist())) == table.find_each(windows[:1])[1].tolist()
 
 
 def test_a_close_in_the_middle_of_calls(windows: Any) -> None:

@@ -37,13 +37,21 @@ def some_ring(chance: random.Random, span: int) -> Ring:
     return [*corners, corners[0]]
 
 
+def polygon(*rings: Any) -> Any:
+    """A polygon of GeoJSON."""
+    return {"type": "Polygon", "coordinates": [*rings]}
+
+
+def several(*parts: Any) -> Any:
+    """One of several parts, each a list of rings."""
+    return {"type": "MultiPolygon", "coordinates": [*parts]}
+
+
 def some_polygons(chance: random.Random, span: int) -> list[Any]:
     polygons = []
     for _ in range(chance.randint(1, 12)):
         parts = [[some_ring(chance, span) for _ in range(chance.randint(1, 3))] for _ in range(chance.randint(1, 3))]
-        polygons.append({"type": "MultiPolygon", "coordinates": parts})
-        if len(parts) == 1:
-            polygons[-1] = {"type": "Polygon", "coordinates": parts[0]}
+        polygons.append(polygon(*parts[0]) if len(parts) == 1 else several(*parts))
     return polygons
 
 
@@ -84,7 +92,8 @@ def test_beside_shapely() -> None:
     assert [*zip(*(it.tolist() for it in zones.holding_each(points)))] == expected and len(zones) == 60
 
 
-SQUARE = {"type": "Polygon", "coordinates": [[(0, 0), (0.25, 0), (0.25, 0.25), (0, 0.25), (0, 0)]]}
+SQUARE = polygon([(0, 0), (0.25, 0), (0.25, 0.25), (0, 0.25), (0, 0)])
+TRIANGLE = polygon([(0, 0), (1, 0), (1, 1), (0, 0)])
 
 
 def test_scale() -> None:
@@ -95,10 +104,14 @@ def test_scale() -> None:
         Zones([SQUARE])
     with pytest.raises(ValueError, match="scale is above 0, and not"):
         Zones([SQUARE], scale=0)
+    with numpy.errstate(all="raise"):  # (whatever the product becomes)
+        assert [it.tolist() for it in Zones([SQUARE], scale=1e-5).holding_each([(5e-324, 0)])] == [[0], [0]]
+        with pytest.raises(ValueError, match="a coordinate that isn't finite"):
+            zones.holding_each([(1.7e308, 0)])
 
 
 def test_ways_in() -> None:
-    whole = {"type": "Polygon", "coordinates": [[(0, 0, 7), (9, 0, 7), (9, 9, 7), (0, 0, 7)]]}
+    whole = polygon([(0, 0, 7), (9, 0, 7), (9, 9, 7), (0, 0, 7)])
     feature = {"type": "Feature", "properties": {}, "geometry": whole}
     given: list[Any] = [[whole], iter([feature]), {"type": "FeatureCollection", "features": [feature]}, whole]
     geopandas = pytest.importorskip("geopandas")
@@ -117,45 +130,48 @@ def test_ways_in() -> None:
 @pytest.mark.parametrize("at", [0, 1, 2])
 def test_empty_polygons(at: int) -> None:
     """They hold no point, wherever they stand, and have a place."""
-    square = {"type": "Polygon", "coordinates": [[(0, 0), (9, 0), (9, 9), (0, 9), (0, 0)]]}
-    for empty in ({"type": "Polygon", "coordinates": []}, {"type": "MultiPolygon", "coordinates": [[]]}, {"type": "MultiPolygon", "coordinates": []}):
+    square = polygon([(0, 0), (9, 0), (9, 9), (0, 9), (0, 0)])
+    for empty in (polygon(), several([]), several()):
         polygons = [square, square]
         polygons.insert(at, empty)
         assert Zones(polygons).holding(5, 5) == [it for it in range(3) if it != at] and Zones([empty]).holding(0, 0) == []
 
 
 @pytest.mark.parametrize(
-    "polygon, words",
+    "wrong, words",
     [
-        ({"type": "Polygon", "coordinates": [[(0, 0), (9, 0), (9, 9)]]}, "a ring of 3 positions, and not 4 or more"),
-        ({"type": "Polygon", "coordinates": [[(0, 0), (9, 0), (9, 9), (0, 9)]]}, "a ring whose last position isn't its first"),
-        ({"type": "Polygon", "coordinates": [[(0, 0), (9, 0), (2**31, 9), (0, 0)]]}, "a coordinate out of the range of 32 bits"),
-        ({"type": "Polygon", "coordinates": [[(0, 0), (9, 0), (float("nan"), 9), (0, 0)]]}, "a ring"),
-        ({"type": "Polygon", "coordinates": [[(0, 0), (9, 0), (float("inf"), 9), (0, 0)]]}, "a coordinate that isn't finite"),
-        ({"type": "Polygon", "coordinates": [[(0, 0), "ab", (9, 9), (0, 0)]]}, "a position isn't a pair of numbers"),
-        ({"type": "Polygon", "coordinates": [[(0,), (9,), (5,), (0,)]]}, "a position isn't a pair of numbers"),
-        ({"type": "Polygon", "coordinates": [[("0", "0"), ("9", "0"), ("9", "9"), ("0", "0")]]}, "a position isn't a pair of numbers"),
+        (polygon([(0, 0), (9, 0), (9, 9)]), "a ring of 3 positions, and not 4 or more"),
+        (polygon([(0, 0), (9, 0), (9, 9), (0, 9)]), "a ring whose last position isn't its first"),
+        (polygon([(0, 0), (9, 0), (2**31, 9), (0, 0)]), "a coordinate out of the range of 32 bits"),
+        (polygon([(0, 0), (9, 0), (float("nan"), 9), (0, 0)]), "a coordinate that isn't finite"),
+        (polygon([(0, 0), (9, 0), (float("inf"), 9), (0, 0)]), "a coordinate that isn't finite"),
+        (polygon([(0, 0), "ab", (9, 9), (0, 0)]), "a position isn't a pair of numbers"),
+        (polygon([(0,), (9,), (5,), (0,)]), "a position isn't a pair of numbers"),
+        (polygon([("0", "0"), ("9", "0"), ("9", "9"), ("0", "0")]), "a position isn't a pair of numbers"),
         ({"type": "Point", "coordinates": (0, 0)}, "Point is no Polygon and no MultiPolygon"),
         (None, "NoneType is no Polygon"),
     ],
 )
-def test_refused_polygons(polygon: Any, words: str) -> None:
-    square = {"type": "Polygon", "coordinates": [[(0, 0), (1, 0), (1, 1), (0, 0)]]}
+def test_refused_polygons(wrong: Any, words: str) -> None:
     with pytest.raises(ValueError) as raised:
-        Zones([square, polygon])
-    assert str(raised.value).startswith("polygons[1]: ") and (words in str(raised.value) or words == "a ring")
+        Zones([TRIANGLE, wrong])
+    assert str(raised.value).startswith(f"polygons[1]: {words}")
 
 
 def test_refused_points() -> None:
-    zones = Zones([{"type": "Polygon", "coordinates": [[(0, 0), (1, 0), (1, 1), (0, 0)]]}])
+    zones = Zones([TRIANGLE])
     for call, error in (
         (lambda: Zones(5), TypeError),
         (lambda: zones.holding(0.5, 0), TypeError),
         (lambda: zones.holding(2**31, 0), ValueError),
         (lambda: zones.holding(float("nan"), 0), ValueError),
+        (lambda: Zones([TRIANGLE], scale=1.5).holding(10**400, 0), ValueError),
         (lambda: zones.holding_each([(0, 1, 2)]), TypeError),
         (lambda: zones.holding_each([(0.5, 1)]), TypeError),
         (lambda: zones.holding_each([("0", "1")]), TypeError),
+        (lambda: zones.holding_each(pandas.DataFrame({"x": ["0"], "y": ["1"]})), TypeError),
+        (lambda: zones.holding_each([(10**400, 0)]), ValueError),
+        (lambda: zones.holding_each(numpy.array([(0, b"1")], object)), TypeError),
         (lambda: zones.holding_each(numpy.ma.array([(0, 1)], mask=[[True, False]])), TypeError),
         (lambda: zones.holding_each(pandas.DataFrame({"x": [0]})), TypeError),
     ):
