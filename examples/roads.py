@@ -17,6 +17,7 @@ from typing import Any
 import numpy
 from pyproj import Geod, Transformer
 from pyproj.exceptions import CRSError
+from shapely.errors import ShapelyError
 from shapely.geometry import Point, shape
 from shapely.ops import nearest_points, transform
 
@@ -34,14 +35,15 @@ class Lines:
         self._plane = Transformer.from_crs(DEGREES, crs, always_xy=True)
         self._earth = Geod(ellps="WGS84")
         with open(file, encoding="utf-8-sig") as text:
-            read = json.load(text)
-        try:
-            features = read["features"]
-            self._ids = [feature.get("id", place) for place, feature in enumerate(features)]
-            self._names = [(feature.get("properties") or {}).get("name") or "" for feature in features]
-            self._lines = [transform(self._plane.transform, shape(feature["geometry"])) for feature in features]
-        except (AttributeError, KeyError, TypeError):
-            raise ValueError(f"{file}: no FeatureCollection of lines") from None
+            try:
+                features = json.load(text)["features"]
+                self._ids = [feature.get("id", place) for place, feature in enumerate(features)]
+                self._names = [(feature.get("properties") or {}).get("name") or "" for feature in features]
+                self._lines = [transform(self._plane.transform, shape(feature["geometry"])) for feature in features]
+                if any(line.is_empty for line in self._lines):
+                    raise ValueError
+            except (AttributeError, KeyError, RecursionError, ShapelyError, TypeError, ValueError):
+                raise ValueError(f"{file}: no FeatureCollection of lines") from None
         bounds = numpy.array([line.bounds for line in self._lines]).reshape(-1, 4)
         self._boxes = Rtfilter.from_bounds(numpy.hstack([whole(numpy.floor(bounds[:, :2])), whole(numpy.ceil(bounds[:, 2:]))]))
 

@@ -9,6 +9,7 @@ from collections.abc import Callable, Mapping
 
 PATIENCE = 5.0  # seconds for one client
 MOST_AT_ONCE = 64  # clients: the oldest is dropped for one more
+METHODS = b"GET", b"HEAD"
 MOST_HEADERS = 100  # lines: what is here already is read without a wait, and the service waits meanwhile
 
 
@@ -34,14 +35,15 @@ async def serve(listener: socket.socket, metrics: Callable[[], Mapping[str, floa
 
 
 def reply(request: list[bytes], metrics: Mapping[str, float]) -> bytes:
-    if request[:2] == [b"GET", b"/health"]:
+    method, path = (*request, b"", b"")[:2]
+    if method in METHODS and path == b"/health":
         status, text = ("200 OK", "ready\n") if metrics["ready"] else ("503 Service Unavailable", "not ready\n")
-    elif request[:2] == [b"GET", b"/metrics"]:
+    elif method in METHODS and path == b"/metrics":
         status, text = "200 OK", shown(metrics)
     else:
         status, text = "404 Not Found", "GET /health or /metrics\n"
-    kind = "text/plain; version=0.0.4; charset=utf-8"
-    return f"HTTP/1.0 {status}\r\nContent-Type: {kind}\r\nContent-Length: {len(text)}\r\n\r\n{text}".encode()
+    kind, body = "text/plain; version=0.0.4; charset=utf-8", "" if method == b"HEAD" else text
+    return f"HTTP/1.0 {status}\r\nContent-Type: {kind}\r\nContent-Length: {len(text)}\r\n\r\n{body}".encode()
 
 
 def shown(metrics: Mapping[str, float]) -> str:

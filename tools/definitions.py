@@ -15,7 +15,7 @@ those that these name, and so on. A line counts unless it is blank, a comment, a
 - Lemmas, in `specs/Lemmas`, are proved: nobody has to believe them. Types that the code declares are read there.
 
 Run from anywhere: `python3 tools/definitions.py`. `--names` prints each definition. `--check` fails if
-there are more lines than MOST_LINES, or if docs/internals/design.md names other files; its last line is `N passed, M failed`.
+there are more lines than MOST_LINES, or if docs/internals/design.md names other files or numbers; its last line is `N passed, M failed`.
 """
 
 import argparse
@@ -29,6 +29,9 @@ CRATES = ROOT / "crates"
 # The most lines that public contracts may reach, that the headline alone may, that the library may beside the program, and
 # that the library's exports may in all.
 MOST_LINES = {"contracts": 930, "headline": 700, "library": 348, "exports": 907}
+
+# The columns that docs/internals/design.md has, from the top.
+ON_THE_MAP = "headline", "contracts", "exports", "library"
 
 # The headline: its crate, its call and its clause.
 HEADLINE = ("rt_filter", "run", "headline")
@@ -153,11 +156,21 @@ def reached_from(clauses, passed_over=frozenset()):
     return lines
 
 
+def section_on_definitions():
+    """The section of docs/internals/design.md on the definitions."""
+    page = (ROOT / "docs/internals/design.md").read_text(encoding="utf-8")
+    return page.split("## The definitions, in reading order")[1].split("\n## ")[0]
+
+
 def files_on_the_map():
     """The files that docs/internals/design.md names as those of the definitions, as crate and module."""
-    section = (ROOT / "docs/internals/design.md").read_text(encoding="utf-8").split("## The definitions, in reading order")[1]
-    rows = re.findall(r"^\| `(\w+)/specs/(.*?) \|", section.split("\n## ")[0], re.MULTILINE)
+    rows = re.findall(r"^\| `(\w+)/specs/(.*?) \|", section_on_definitions(), re.MULTILINE)
     return {(crate, module) for crate, files in rows for module in re.findall(r"(\w+)\.antt`", files)}
+
+
+def lines_on_the_map():
+    """The numbers of lines that docs/internals/design.md names."""
+    return [int(number) for number in re.findall(r"^\| [^|`]+ \| (\d+)[^|]*\|$", section_on_definitions(), re.MULTILINE)]
 
 
 def main():
@@ -191,6 +204,7 @@ def main():
     if options.check:
         passed = [0 < sum(counted[column].values()) <= most for column, most in MOST_LINES.items()]
         passed.append({name[:2] for name in everything} == files_on_the_map())
+        passed.append([sum(counted[column].values()) for column in ON_THE_MAP] == lines_on_the_map())
         print(f"{passed.count(True)} passed, {passed.count(False)} failed")
         return not all(passed)
     return 0

@@ -28,9 +28,10 @@ def line(id: Any, *paths: Any, **properties: Any) -> dict[str, Any]:
     return feature if id is None else {**feature, "id": id}
 
 
-def run(folder: Path, features: list[Any], positions: str, *options: str) -> subprocess.CompletedProcess[str]:
+def run(folder: Path, features: list[Any] | str, positions: str, *options: str) -> subprocess.CompletedProcess[str]:
+    """A run over features, or over a file of lines with this text."""
     lines, records = folder / "lines.geojson", folder / "positions.csv"
-    lines.write_text(json.dumps({"type": "FeatureCollection", "features": features}))
+    lines.write_text(features if isinstance(features, str) else json.dumps({"type": "FeatureCollection", "features": features}))
     records.write_text(positions)
     words = [sys.executable, str(ROADS), *options, str(lines), str(records)]
     return subprocess.run(words, env=environment(), capture_output=True, text=True, timeout=LONGEST)
@@ -102,8 +103,9 @@ def test_refusals(tmp_path: Path) -> None:
         ("longitude,latitude\n1,1\n", ["--nearest", "-1"], "argument --nearest: 1 or more"),
     ):
         assert_refused(run(tmp_path, [line(1, [(0, 0), (1, 1)])], positions, *options), why)
-    for feature in ({**line(1, [(0, 0), (1, 1)]), "geometry": None}, {}, 5):
-        assert_refused(run(tmp_path, [feature], "longitude,latitude\n1,1\n"), "lines.geojson: no FeatureCollection of lines")
+    some = line(1, [(0, 0), (1, 1)])
+    for features in ([{**some, "geometry": None}], [{}], [5], [some, line(2, [])], [{**some, "geometry": {"type": "x"}}], "[", "[" * 100_000):
+        assert_refused(run(tmp_path, features, "longitude,latitude\n1,1\n"), "lines.geojson: no FeatureCollection of lines")
 
 
 def assert_refused(done: subprocess.CompletedProcess[str], why: str) -> None:

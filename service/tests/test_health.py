@@ -166,6 +166,7 @@ class Health(Case):
         service = self.served(BOXES, "--health", "0")
         for request, status in (
             (b"GET /health HTTP/1.1\r\nHost: here\r\nConnection: keep-alive\r\n\r\n", 200), (b"GET /health\n\n", 200),
+            (b"HEAD /health HTTP/1.0\r\n\r\n", 200), (b"HEAD /metrics HTTP/1.1\r\nHost: here\r\n\r\n", 200), (b"HEAD / HTTP/1.0\r\n\r\n", 404),
             (b"GET / HTTP/1.0\r\n\r\n", 404), (b"GET /healthy HTTP/1.0\r\n\r\n", 404),
             (b"POST /health HTTP/1.0\r\n\r\n", 404), (b"\r\n\r\n", 404), (b"\0\xff\n\n", 404), (b"GET\r\n\r\n", 404),
         ):

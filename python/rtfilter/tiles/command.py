@@ -24,7 +24,7 @@ from .views import Views
 
 NAME = "rtfilter-tiles"
 ACCESSES = logging.getLogger("rtfilter.tiles")
-COMMON_LOG_FORMAT = '%a - - %t "%r" %s %b'
+COMMON_LOG_FORMAT = '%a - - %t "%r" %s %{Content-Length}o'  # (%b of aiohttp counts the headers too)
 SHUTDOWN = 10.0  # seconds for requests that are under way at the end
 BETWEEN_COMPLAINTS = 10.0  # seconds
 ENDS = signal.SIGTERM, signal.SIGINT

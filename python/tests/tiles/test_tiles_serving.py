@@ -341,7 +341,7 @@ class Reloads(unittest.TestCase):
         """In the Common Log Format, to a file that may be moved away, and each as one line, whatever the request."""
         log = self.folder / "log"
         with Server(self.table, "--log", str(log)) as server:
-            server.get("/health")
+            size = len(server.get("/health")[1])
             server.reply_to(b'GET /"x"\xff\x07 HTTP/1.1\r\nHost: localhost\r\n\r\n')
             server.reply_to(b"GET /\xff HTTP/1.1\r\nHost: localhost\r\n\r\n")
             until(lambda: log.read_text().count("\n") == 3)
@@ -351,10 +351,10 @@ class Reloads(unittest.TestCase):
         older, newer = (it.read_text().splitlines() for it in (self.folder / "older", log))
         moment = r'\[\d\d/[A-Z][a-z]{2}/\d{4}:\d\d:\d\d:\d\d \+0000\]'
         self.assertEqual((len(older), len(newer)), (3, 1))
-        self.assertRegex(older[0], rf'^127\.0\.0\.1 - - {moment} "GET /health HTTP/1\.1" 200 \d+$')
+        self.assertRegex(older[0], rf'^127\.0\.0\.1 - - {moment} "GET /health HTTP/1\.1" 200 {size}$')
         for line in older[1:]:
             self.assertRegex(line, rf'^127\.0\.0\.1 - - {moment} ".*" 40\d \d+$')
-        self.assertIn('"GET /22/0/0.pbf HTTP/1.1" 204 ', newer[0])
+        self.assertTrue(newer[0].endswith('"GET /22/0/0.pbf HTTP/1.1" 204 -'), newer)
 
     def test_a_log_that_cannot_be_written(self) -> None:
         """Requests are answered, and that is said once in a while: the disk is full, or the folder is gone for some time."""
