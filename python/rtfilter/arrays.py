@@ -65,18 +65,21 @@ def floats_of(value: Any, what: str, names: Sequence[str]) -> NDArray[numpy.floa
     """An array of floats: an array or a list of numbers, or the columns of a frame or an array with fields, by their names. Raises
     TypeError if something is no number, is masked, or a column is missing or there twice."""
     columns = _named(value, what, names)
-    array = _unmasked(_read(value, what), what) if columns is None else numpy.stack(columns, axis=1)
+    if columns is not None:
+        return numpy.stack([_floats(it, what) for it in columns], axis=1)
+    return _floats(_unmasked(_read(value, what), what), what)
+
+
+def _floats(array: NDArray[Any], what: str) -> NDArray[numpy.float64]:
+    """An array as floats."""
     if array.dtype.kind not in "biufO":
         raise TypeError(f"{what}: numbers are {array.dtype}")
-    return _floats_of_objects(array, what) if array.dtype.kind == "O" else numpy.asarray(array, "f8")
-
-
-def _floats_of_objects(array: NDArray[Any], what: str) -> NDArray[numpy.float64]:
-    for it in array.flat:
-        if isinstance(it, (str, bytes)):  # (in which numpy would read a number)
-            raise TypeError(f"{what}: {it!r:.50} is no number")
+    if array.dtype.kind == "O":
+        for it in array.flat:
+            if isinstance(it, (str, bytes)):  # (in which numpy would read a number)
+                raise TypeError(f"{what}: {it!r:.50} is no number")
     try:
-        return array.astype("f8")
+        return numpy.asarray(array, "f8")
     except TypeError as error:
         raise TypeError(f"{what}: {error}") from None
     except OverflowError:

@@ -172,6 +172,7 @@ class Boxes:
             return _asking(region, order, first, on)
         if (region, order, first, on) != (Window, None, None, None):
             raise TypeError("boxes in floats have windows and geometries, and no other region, order, limit or layers")
+        STRtree([]).query([], predicate)  # raises for one that isn't there before anything is computed
         return partial(_shapes, predicate)
 
     def _answers(self, frame: Frame, meta: Frame, ask: Ask, gather: Gather, has_columns: bool = False) -> Frame:

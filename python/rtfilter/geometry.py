@@ -240,4 +240,6 @@ def _joined(kept: Any, other: Any, places: Places, others: Places, has_all: bool
     rest.index = frame.index
     shared = [it for it in rest if it in frame]
     frame = frame.rename(columns={it: f"{it}_{names[0]}" for it in shared})
+    if kept.geometry.name in shared:
+        frame = frame.set_geometry(f"{kept.geometry.name}_{names[0]}")
     return frame, rest.rename(columns={it: f"{it}_{names[1]}" for it in shared})

@@ -173,6 +173,9 @@ def test_floats_and_geometries() -> None:
     for options in refused:
         with pytest.raises(TypeError):
             tables.query(partitioned, **options)
+    for call in (tables.query, tables.count, tables.join):
+        with pytest.raises(ValueError, match="'near' is no predicate"):
+            call(partitioned, predicate="near")
 
 
 def test_a_file_that_has_changed(tmp_path: Path) -> None:

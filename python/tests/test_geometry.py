@@ -76,6 +76,7 @@ def test_bounds_by_their_names() -> None:
     refused: list[tuple[Any, str]] = [
         (frame.drop(columns="max_y"), "bounds: there is no column max_y among minX"),
         (frame.assign(min_x=1), "bounds: the columns minX and min_x are both min_x"),
+        (frame.assign(min_y=pandas.Timestamp(0)), "bounds: numbers are datetime64[ns]"),
         (masked, "bounds: a number is masked"),
         ([("0", "0", "1", "1")], "bounds: numbers are <U1"),
         (frame.astype({"max_x": str}), "bounds: '1.5' is no number"),
@@ -281,6 +282,13 @@ def test_names_of_indexes(monkeypatch: pytest.MonkeyPatch) -> None:
     for index, names in indexes:
         assert [*sjoin(frame, frame.set_index(index))] == ["n_left", "geometry", *names, "n_right"]
     assert [*sjoin(frame, frame.set_index("n"))] == ["n_left", "geometry", "n_right"]
+
+
+def test_a_column_that_is_called_as_the_geometry() -> None:
+    """The geometry gets a suffix as other columns do, and stays that of the frame."""
+    other = FRAME.rename_geometry("shape").assign(geometry=7)
+    for joined, name in ((sjoin(FRAME, other), "geometry_left"), (sjoin(other, FRAME, how="right"), "geometry_right")):
+        assert {"geometry_left", "geometry_right"} < {*joined.columns} and joined.geometry.name == name and joined.geometry[0] == Point(0, 0)
 
 
 def listed(frame: Any) -> list[str]:
