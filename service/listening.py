@@ -89,7 +89,8 @@ def tcp_listener(option: str, host: str, port: int) -> socket.socket:
     try:
         return socket.create_server((host, port), family=family, backlog=BACKLOG)
     except OSError as error:
-        why = "the port is in use: choose another port" if error.errno == errno.EADDRINUSE else error.strerror
+        # (without the address, which create_server adds)
+        why = "the port is in use: choose another port" if error.errno == errno.EADDRINUSE else str(error.strerror).partition(" (")[0]
         raise OSError(f"{option} {name_of((host, port))}: {why}") from None
 
 

@@ -140,6 +140,10 @@ class Sockets(Case):
                 self.assertEqual(run("--unix", Path(self.folder, "socket"), option, port, table), (1, message))
         self.assertFalse(os.path.exists(Path(self.folder, "socket")))
 
+    def test_an_address_of_another_machine(self) -> None:
+        message = "rtfilter-serve: --tcp 203.0.113.1:5000: Cannot assign requested address\n"
+        self.assertEqual(run("--tcp", "203.0.113.1:5000", BOXES), (1, message))
+
     def test_loopback(self) -> None:
         self.assertEqual(self.served(BOXES, "--tcp", "0").tcp[0], "127.0.0.1")
 

@@ -141,9 +141,10 @@ async def listen(runner: web.AppRunner, args: argparse.Namespace) -> None:
     try:
         await site.start()
     except OSError as error:
-        if error.errno != errno.EADDRINUSE:
-            raise
-        raise OSError(f"--port {args.port}: the port is in use on {args.listen}: choose another port") from None
+        if error.errno == errno.EADDRINUSE:
+            raise OSError(f"--port {args.port}: the port is in use on {args.listen}: choose another port") from None
+        # (without the address, which asyncio adds)
+        raise OSError(f"--listen {args.listen}: {reason(error).rpartition(': ')[2]}") from None
 
 
 def loaded(args: argparse.Namespace, generation: int = 1) -> Served:

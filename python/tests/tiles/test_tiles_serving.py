@@ -18,7 +18,7 @@ import threading
 import time
 import unittest
 from collections.abc import Iterator
-from http.client import HTTPConnection, HTTPResponse
+from http.client import HTTPConnection
 from http.server import SimpleHTTPRequestHandler, ThreadingHTTPServer
 from pathlib import Path
 from unittest import mock
@@ -294,6 +294,10 @@ class Reloads(unittest.TestCase):
             with Server(self.table, "--reuse-port", "--port", str(one.port)) as other:
                 self.assertEqual(one.end(), (0, ""))
                 self.assertEqual(json.loads(other.get("/health")[1]), {"boxes": 5})
+
+    def test_an_address_of_another_machine(self) -> None:
+        with self.assertRaisesRegex(RuntimeError, "^rtfilter-tiles: --listen 203.0.113.1: cannot assign requested address\n$"):
+            Server(self.table, "--listen", "203.0.113.1")
 
     def test_an_end_during_a_load(self) -> None:
         """However long that takes: here minutes, for a file of nothing. While it is loaded again the status is 0."""
