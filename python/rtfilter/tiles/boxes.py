@@ -111,7 +111,7 @@ class LevelCounts:
     def __init__(self, boxes: NDArray[Any]) -> None:
         self._totals = numpy.bincount(boxes[:, 4], minlength=LAYERS)
         self._levels: list[NDArray[Any]] = []  # for each level a row of LAYERS for each of its full tiles
-        left = boxes
+        left = boxes[(numpy.abs(boxes[:, [0, 2]]) <= HALF).all(axis=1)]  # (others begin in no tile)
         for z in range(DEEPEST + 1):
             x, y = (tile_of(left[:, side], z) for side in (0, 2))
             _, tiles, counts = numpy.unique(x << 32 | y, return_inverse=True, return_counts=True)
@@ -138,4 +138,4 @@ class LevelCounts:
 
 def tile_of(coordinates: NDArray[Any], z: int) -> NDArray[Any]:
     """The places of the tiles that hold coordinates, counted from the west or the south."""
-    return (numpy.clip(coordinates, -HALF, HALF) + HALF << z) // (2 * HALF + 1)
+    return (coordinates + HALF << z) // (2 * HALF + 1)

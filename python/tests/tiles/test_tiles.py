@@ -153,6 +153,14 @@ class Tiles(Mapped):
             levels = [b"density" in plain.get("/%d/%d/%d.pbf" % (z, *tile_at(z, (0, 0))))[1][:40] for z in range(9, 14)]
         self.assertEqual(levels, [True, True, True, False, False])
 
+    def test_boxes_outside_of_the_world(self) -> None:
+        """They lie in no tile, and turn none into counts."""
+        table = Path(self.folder, "outside.csv")
+        table.write_text("".join(f"{at},{x},{x},{x},{x}\n" for at, x in enumerate([0] * 10 + [2**31 - 1] * 6000)))
+        with Server(table) as server:
+            self.assertEqual(len(self.features(DEEPEST, 1 << DEEPEST - 1, (1 << DEEPEST - 1) - 1, server=server)), 10)
+            self.assertEqual(self.features(DEEPEST, (1 << DEEPEST) - 1, 0, server=server), [])
+
     def test_the_command_of_the_page(self) -> None:
         """GDAL writes boxes of the map that make_map makes."""
         wants("ogr2ogr")
