@@ -127,17 +127,12 @@ static PyObject *table_close(Table *self, PyObject *Py_UNUSED(unused))
     return Py_NewRef(Py_None);
 }
 
-static void free_object(PyObject *self)
-{
-    PyTypeObject *type = Py_TYPE(self);
-    ((freefunc)PyType_GetSlot(type, Py_tp_free))(self);
-    Py_DECREF(type);
-}
-
 static void table_free(PyObject *self)
 {
+    PyTypeObject *type = Py_TYPE(self);
     Py_DECREF(table_close((Table *)self, NULL));
-    free_object(self);
+    ((freefunc)PyType_GetSlot(type, Py_tp_free))(self);
+    Py_DECREF(type);
 }
 
 /* ---- Buffers */
@@ -177,19 +172,14 @@ static PyObject *whole(PyObject *number, PyObject *of)
     return found;
 }
 
-static PyObject *raise_fault(const rtfilter_fault *fault)
-{
-    return raise_made(table_error, PyObject_CallFunction(table_error, "IIK", (unsigned)fault->kind, (unsigned)fault->record,
-                                                         (unsigned long long)fault->field));
-}
-
 static PyObject *opened(Table *self, int code, const rtfilter_fault *fault)
 {
     if (code == RTFILTER_OK)
         return (PyObject *)self;
     Py_DECREF(self);
     if (code == RTFILTER_BAD_TABLE)
-        return raise_fault(fault);
+        return raise_made(table_error, PyObject_CallFunction(table_error, "IIK", (unsigned)fault->kind, (unsigned)fault->record,
+                                                             (unsigned long long)fault->field));
     if (code == RTFILTER_BAD_SETTING)
         return PyErr_Format(PyExc_ValueError, "fanout is 2 to 64, and max_entries 1 to 16777216");
     return failed(code);
@@ -878,58 +868,42 @@ static PyObject *table_info(Table *self, PyObject *Py_UNUSED(unused))
 
 /* ---- Points in polygons */
 
-/* Polygons in whole numbers: parts that consist of rings, whose last corner is the first one again. */
-typedef struct {
-    PyObject_HEAD
-    Py_buffer of[3]; /* corners, as x and y of 32 bits; where each ring begins, and each part, and one more for the last end */
-    Py_ssize_t lens[3];
-    int views;
-} Polygons;
-
 enum { CORNERS, RINGS, PARTS, LISTS };
 
-/* Whether offsets rise and end with the last item that they may. */
-static bool are_offsets(const int64_t *offsets, Py_ssize_t count, Py_ssize_t last)
+/* Polygons in whole numbers: parts that consist of rings, whose last corner is the first one again. */
+typedef struct {
+    Py_buffer of[LISTS]; /* corners, as x and y of 32 bits; where each ring begins, and each part, and one more for the last end */
+    Py_ssize_t lens[LISTS];
+} polygons;
+
+static bool view_polygons(polygons *it, PyObject *const *from)
 {
-    for (Py_ssize_t at = 0; at < count; at++)
-        if (offsets[at] < (at ? offsets[at - 1] : 0) || offsets[at] > last)
+    for (int at = 0; at < LISTS; at++) {
+        it->lens[at] = -1;
+        if (!view_items(from[at], it->of + at, 8, it->lens + at)) {
+            release(it->of, at);
             return false;
-    return count > 0;
+        }
+    }
+    return true;
 }
 
-static void polygons_free(PyObject *self)
+/* Whether there is such a part, all of whose rings have corners. */
+static bool is_part(const polygons *it, int64_t part)
 {
-    release(((Polygons *)self)->of, ((Polygons *)self)->views);
-    free_object(self);
-}
-
-static PyObject *polygons_new(PyTypeObject *type, PyObject *args, PyObject *Py_UNUSED(named))
-{
-    PyObject *from[LISTS];
-    if (!PyArg_ParseTuple(args, "OOO", from, from + 1, from + 2))
-        return NULL;
-    Polygons *self = (Polygons *)PyType_GenericAlloc(type, 0);
-    for (int at = 0; self && at < LISTS; at++) {
-        self->lens[at] = -1;
-        if (!view_items(from[at], self->of + at, 8, self->lens + at))
-            Py_CLEAR(self);
-        else
-            self->views++;
-    }
-    if (self && (!are_offsets(self->of[RINGS].buf, self->lens[RINGS], self->lens[CORNERS]) ||
-                 !are_offsets(self->of[PARTS].buf, self->lens[PARTS], self->lens[RINGS] - 1))) {
-        Py_CLEAR(self);
-        PyErr_SetString(PyExc_ValueError, "offsets of rings or parts that don't rise");
-    }
-    return (PyObject *)self;
+    const int64_t *rings = it->of[RINGS].buf, *parts = it->of[PARTS].buf;
+    bool is_sound = part >= 0 && part < it->lens[PARTS] - 1 && parts[part] >= 0 && parts[part + 1] < it->lens[RINGS];
+    for (int64_t ring = is_sound ? parts[part] : 0; is_sound && ring < parts[part + 1]; ring++)
+        is_sound = rings[ring] >= 0 && rings[ring + 1] <= it->lens[CORNERS];
+    return is_sound || PyErr_Format(PyExc_IndexError, "no such part");
 }
 
 /* Whether a point is on the rings of a part, or a ray from it crosses them an odd number of times. Exact: 66 bits suffice. */
-static bool holds(const Polygons *self, int64_t part, int64_t x, int64_t y)
+static bool holds(const polygons *it, int64_t part, int64_t x, int64_t y)
 {
     __extension__ typedef __int128 wide;
-    const int32_t *corners = self->of[CORNERS].buf;
-    const int64_t *rings = self->of[RINGS].buf, *parts = self->of[PARTS].buf;
+    const int32_t *corners = it->of[CORNERS].buf;
+    const int64_t *rings = it->of[RINGS].buf, *parts = it->of[PARTS].buf;
     bool is_odd = false;
     for (int64_t ring = parts[part]; ring < parts[part + 1]; ring++)
         for (int64_t at = rings[ring]; at + 1 < rings[ring + 1]; at++) {
@@ -945,56 +919,61 @@ static bool holds(const Polygons *self, int64_t part, int64_t x, int64_t y)
     return is_odd;
 }
 
+/* holding(corners, rings, parts, some, x, y): those of some parts, a list, that hold a point. */
+static PyObject *holding(PyObject *Py_UNUSED(module), PyObject *args)
+{
+    PyObject *from[LISTS], *some;
+    polygons it;
+    int x, y;
+    if (!PyArg_ParseTuple(args, "OOOO!ii", from, from + 1, from + 2, &PyList_Type, &some, &x, &y) || !view_polygons(&it, from))
+        return NULL;
+    PyObject *held = PyList_New(0);
+    for (Py_ssize_t at = 0; held && at < PyList_Size(some); at++) {
+        PyObject *part = PyList_GetItem(some, at);
+        const int64_t number = PyLong_AsLongLong(part);
+        if (PyErr_Occurred() || !is_part(&it, number) || (holds(&it, number, x, y) && PyList_Append(held, part) < 0))
+            Py_CLEAR(held);
+    }
+    release(it.of, LISTS);
+    return held;
+}
+
 /* Decides pairs from a place on until all are decided, or it is time to look for a signal: where the next one stands. */
-static Py_ssize_t hold_slice(const Polygons *self, const int64_t *parts, const int32_t *points, char *into, Py_ssize_t at, Py_ssize_t len)
+static Py_ssize_t hold_slice(const polygons *it, const int64_t *parts, const int32_t *points, char *into, Py_ssize_t at, Py_ssize_t len)
 {
     const int64_t begun = nanoseconds();
     for (Py_ssize_t step = 1; at < len && nanoseconds() - begun < SLICE_NS; step = step < STEP ? 2 * step : STEP)
         for (const Py_ssize_t end = len - at < step ? len : at + step; at < end; at++)
-            into[at] = holds(self, parts[at], points[2 * at], points[2 * at + 1]);
+            into[at] = holds(it, parts[at], points[2 * at], points[2 * at + 1]);
     return at;
 }
 
-static bool is_part(const Polygons *self, int64_t part)
+/* holds_each(corners, rings, parts, some, points): a byte for each pair of some part, in 64 bits, and a point, as x and y of 32 bits. */
+static PyObject *holds_each(PyObject *Py_UNUSED(module), PyObject *args)
 {
-    return (part >= 0 && part < self->lens[PARTS] - 1) || PyErr_Format(PyExc_IndexError, "no such part");
-}
-
-/* holds(part, x, y): in less time than an array of one point. */
-static PyObject *polygons_holds(Polygons *self, PyObject *args)
-{
-    long long part;
-    int x, y;
-    if (!PyArg_ParseTuple(args, "Lii", &part, &x, &y) || !is_part(self, part))
-        return NULL;
-    return PyBool_FromLong(holds(self, part, x, y));
-}
-
-/* holds_each(parts, points): a byte for each pair of a part, in 64 bits, and a point, as x and y of 32 bits. */
-static PyObject *polygons_holds_each(Polygons *self, PyObject *args)
-{
-    PyObject *from[2], *all = NULL;
+    PyObject *from[LISTS], *pairs[2], *all = NULL;
+    polygons it;
     Py_buffer of[2] = {0};
     Py_ssize_t len = -1;
     int views = 0;
-    if (!PyArg_ParseTuple(args, "OO", from, from + 1))
+    if (!PyArg_ParseTuple(args, "OOOOO", from, from + 1, from + 2, pairs, pairs + 1) || !view_polygons(&it, from))
         return NULL;
-    while (views < 2 && view_items(from[views], of + views, 8, &len))
+    while (views < 2 && view_items(pairs[views], of + views, 8, &len))
         views++;
-    const int64_t *parts = of[0].buf;
-    const int32_t *points = of[1].buf;
+    const int64_t *some = of[0].buf;
     bool is_sound = views == 2;
     for (Py_ssize_t at = 0; is_sound && at < len; at++)
-        is_sound = is_part(self, parts[at]);
+        is_sound = is_part(&it, some[at]);
     char *into = is_sound && (all = PyByteArray_FromStringAndSize(NULL, len)) ? PyByteArray_AsString(all) : NULL;
     for (Py_ssize_t at = 0; all && at < len;) {
         Py_BEGIN_ALLOW_THREADS
-        at = hold_slice(self, parts, points, into, at, len);
+        at = hold_slice(&it, some, of[1].buf, into, at, len);
         Py_END_ALLOW_THREADS
         if (PyErr_CheckSignals() < 0)
             Py_CLEAR(all);
     }
     release(of, views);
+    release(it.of, LISTS);
     return all;
 }
 
@@ -1029,15 +1008,6 @@ static PyType_Slot table_slots[] = {{Py_tp_methods, table_methods}, {Py_tp_deall
 static PyType_Spec table_spec = {"rtfilter._engine.Table", sizeof(Table), 0,
                                  Py_TPFLAGS_DEFAULT | Py_TPFLAGS_BASETYPE | Py_TPFLAGS_DISALLOW_INSTANTIATION, table_slots};
 
-static PyMethodDef polygons_methods[] = {
-    {"holds", CALL(polygons_holds), METH_VARARGS, NULL},
-    {"holds_each", CALL(polygons_holds_each), METH_VARARGS, NULL},
-    {0},
-};
-static PyType_Slot polygons_slots[] = {
-    {Py_tp_methods, polygons_methods}, {Py_tp_new, polygons_new}, {Py_tp_dealloc, polygons_free}, {0}};
-static PyType_Spec polygons_spec = {"rtfilter._engine.Polygons", sizeof(Polygons), 0, Py_TPFLAGS_DEFAULT, polygons_slots};
-
 /* know(classes, TableError, QueryError, layer_bits): the classes of regions and orders, in the order of `kinds`. They stand for the
  * whole process, so that one interpreter of it has them. */
 static PyObject *know(PyObject *Py_UNUSED(module), PyObject *args)
@@ -1061,7 +1031,12 @@ static PyObject *know(PyObject *Py_UNUSED(module), PyObject *args)
 }
 
 static PyMethodDef functions[] = {
-    {"know", know, METH_VARARGS, NULL}, {"query_of", query_of, METH_VARARGS, NULL}, {0}};
+    {"know", know, METH_VARARGS, NULL},
+    {"query_of", query_of, METH_VARARGS, NULL},
+    {"holding", holding, METH_VARARGS, NULL},
+    {"holds_each", holds_each, METH_VARARGS, NULL},
+    {0},
+};
 static struct PyModuleDef definition = {PyModuleDef_HEAD_INIT, "rtfilter._engine", NULL, -1, functions, NULL, NULL, NULL, NULL};
 
 /* The members of a query that an array of queries sets: names, formats of numpy, and offsets. */
@@ -1083,8 +1058,7 @@ static int add(PyObject *module, const char *name, PyObject *value)
 PyMODINIT_FUNC PyInit__engine(void)
 {
     PyObject *module = PyModule_Create(&definition);
-    if (module && (add(module, "Table", PyType_FromSpec(&table_spec)) < 0 ||
-                   add(module, "Polygons", PyType_FromSpec(&polygons_spec)) < 0 || add(module, "layout", layout()) < 0 ||
+    if (module && (add(module, "Table", PyType_FromSpec(&table_spec)) < 0 || add(module, "layout", layout()) < 0 ||
                    PyModule_AddIntConstant(module, "query_size", sizeof(rtfilter_query)) < 0 ||
                    PyModule_AddStringConstant(module, "version", rtfilter_version()) < 0))
         Py_CLEAR(module);

@@ -48,7 +48,7 @@ class Zones:
         self._load(numpy.concatenate(corners), numpy.array(rings, "i8"), numpy.array(parts, "i8"))
 
     def _load(self, corners: NDArray[Any], rings: NDArray[Any], parts: NDArray[Any]) -> None:
-        self._polygons = _engine.Polygons(corners, rings, parts)
+        self._polygons = corners.tobytes(), rings.tobytes(), parts.tobytes()
         begins = rings[parts[:-1]]
         bounds = numpy.empty((0, 4), "i4")
         if len(begins):
@@ -63,8 +63,8 @@ class Zones:
         """Return the positions of the polygons that contain the point (x, y), ascending."""
         whole_x, whole_y = self._whole_number(x), self._whole_number(y)
         parts = self._table.find(Covers(whole_x, whole_x, whole_y, whole_y))
-        found = (int(self._zones[it]) for it in parts if self._polygons.holds(it, whole_x, whole_y))
-        return [*dict.fromkeys(found)]
+        held = _engine.holding(*self._polygons, parts, whole_x, whole_y)
+        return [*dict.fromkeys([int(self._zones[it]) for it in held])]
 
     def holding_each(self, points: Any) -> tuple[NDArray[Any], NDArray[Any]]:
         """Return two arrays with a pair for each answer: the position of the point, and that of the polygon. `points` are rows of x
@@ -74,7 +74,7 @@ class Zones:
             raise TypeError(f"points: the shape is {array.shape}, and not (n, 2)")
         whole = self._whole(array.reshape(-1, 2))
         places, parts = self._table.find_each(whole[:, [0, 0, 1, 1]], region=Covers)
-        held = numpy.frombuffer(self._polygons.holds_each(parts, numpy.ascontiguousarray(whole[places])), bool)
+        held = numpy.frombuffer(_engine.holds_each(*self._polygons, parts, numpy.ascontiguousarray(whole[places])), bool)
         places, zones = places[held], self._zones[parts[held]]
         is_new = numpy.ones(len(places), bool)  # one answer for a polygon of which two parts hold the point
         is_new[1:] = (places[1:] != places[:-1]) | (zones[1:] != zones[:-1])

@@ -23,6 +23,7 @@ REGIONS += [Circle(0, 0, -1), Window(0, 2**40, 0, 1), tuple.__new__(Window, (1,)
 ORDERS: list[Any] = [None, Near(3, 3), Smallest(), Near(2**31, 0), All()]
 OTHERS: list[dict[str, Any]] = [{}, {"first": 3}, {"on": 3}, {"on": [0, 63]}, {"on": []}, {"on": 64}, {"on": "x"}, {"first": -1}, {"x": 1}]
 SQUARE = array("i", [0, 0, 9, 0, 9, 9, 0, 9, 0, 0]), array("q", [0, 5]), array("q", [0, 1])
+PAIR = array("q", [0]), array("i", [3, 3])
 BAD_ARRAYS: list[Any] = [(array("q", [1]), array("i", [2]), array("q"), b"", b"", None), (1, 2, 3, 4, 5, None)]
 
 
@@ -63,12 +64,14 @@ def many(table: Rtfilter) -> list[str]:
         lambda: table._count_each(bad * 70, 0),
         lambda: table._count_each(queries, 0),
         lambda: _engine.query_of(Polygon, None, None, None),
-        lambda: _engine.Polygons(*SQUARE).holds_each(array("q", [0] * 3), array("i", [3, 3, 9, 9, 10, 9])),
-        lambda: _engine.Polygons(*SQUARE).holds(0, 3, 3),
-        lambda: _engine.Polygons(*SQUARE).holds(1, 3, 3),
-        lambda: _engine.Polygons(SQUARE[0], array("q", [0, 6]), SQUARE[2]),
-        lambda: _engine.Polygons(SQUARE[0], SQUARE[1], array("q", [1, 0])),
-        lambda: _engine.Polygons(SQUARE[0], SQUARE[1], b"x"),
+        lambda: _engine.holds_each(*SQUARE, array("q", [0] * 3), array("i", [3, 3, 9, 9, 10, 9])),
+        *(lambda it=it: _engine.holds_each(*SQUARE, array("q", [it]), PAIR[1]) for it in (-1, 1, 2**62)),
+        *(lambda it=it: _engine.holding(*SQUARE, it, 3, 3) for it in ([], [0, 0], [-1], [1], [2**64], ["x"], 5)),
+        lambda: _engine.holding(b"x", *SQUARE[1:], [0], 3, 3),
+        *(lambda it=it: _engine.holds_each(SQUARE[0], array("q", it), SQUARE[2], *PAIR) for it in ([0, 6], [-1, 5], [5, 0], [0], [])),
+        *(lambda it=it: _engine.holds_each(*SQUARE[:2], array("q", it), *PAIR) for it in ([0, 2], [1, 0], [-1, 1], [0], [])),
+        lambda: _engine.holds_each(*SQUARE, PAIR[0], b""),
+        lambda: _engine.holds_each(*SQUARE[:2], b"x", *PAIR),
     ]
     return [str(count), str(filtered), str(zlib.crc32(places[: 8 * count] + ids[: 8 * count])), *map(outcome, others)]
 

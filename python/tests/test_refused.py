@@ -42,7 +42,7 @@ calls = {
     "open rows": lambda: Rtfilter(rows).find(All()),
     "open file": lambda: Rtfilter(sys.argv[1]).find(All()),
     "levels": lambda: table.levels(),
-    "polygons": lambda: bytes(_engine.Polygons(*polygons).holds_each(*points)),
+    "polygons": lambda: bytes(_engine.holds_each(*polygons, *points)),
 }
 for name, call in calls.items():
     expected, refused, at = call(), 0, 0
