@@ -38,9 +38,12 @@ PREFORK := $(if $(shell command -v $(CC)),build/rtfilter-prefork.so)
 
 all: build/rtfilter $(PREFORK)
 
-# The crates of this repository that a crate stands on, those that stand on it, and its files and folders.
-below = $(filter $(CRATES),$(shell sed -n 's/^$(1)\( staticlib\)\?://p' crates.txt))
-all_below = $(sort $(foreach it,$(call below,$(1)),$(it) $(call all_below,$(it))))
+# The crates of this repository that a crate stands on, those that stand on it, and its files and folders. The first are found once, since
+# a shell takes a while, and crates.txt names a crate before those that stand on it.
+$(foreach it,$(CRATES),$(eval below_$(it) := $(filter $(CRATES),$(shell sed -n 's/^$(it)\( staticlib\)\?://p' crates.txt))))
+$(foreach it,$(CRATES),$(eval all_below_$(it) := $(sort $(below_$(it)) $(foreach lower,$(below_$(it)),$(all_below_$(lower))))))
+below = $(below_$(1))
+all_below = $(all_below_$(1))
 above = $(foreach crate,$(CRATES),$(if $(filter $(1),$(call all_below,$(crate))),$(crate)))
 sources = crates.txt $(shell find crates/$(1)/src crates/$(1)/specs crates/$(1)/proofs 2> /dev/null)
 
