@@ -160,12 +160,12 @@ INSTALLED_LIBRARY := $(if $(or $(filter library,$(MAKECMDGOALS)),$(wildcard $(OU
 install: $(PROGRAM) $(PREFORK) $(INSTALLED_LIBRARY)
 	install -D $(PROGRAM) "$(DESTDIR)$(PREFIX)/bin/rtfilter"
 	install -D -m 644 docs/rtfilter.1 "$(SHARE)/man/man1/rtfilter.1"
-	install -D -m 644 packaging/rtfilter.bash "$(COMPLETIONS)/rtfilter"
+	install -D -m 644 packaging/completion.bash "$(COMPLETIONS)/rtfilter"
 ifdef PREFORK
 	install -d "$(SERVING)" "$(UNITS)"
 	install -m 644 $(PREFORK) $(SERVICE) "$(SERVING)"
 	install -D -m 644 docs/rtfilter-serve.1 "$(SHARE)/man/man1/rtfilter-serve.1"
-	install -D -m 644 packaging/rtfilter-serve.bash "$(COMPLETIONS)/rtfilter-serve"
+	install -D -m 644 packaging/completion.bash "$(COMPLETIONS)/rtfilter-serve"
 	chmod 755 "$(SERVING)/serve.py"
 	ln -sf ../lib/rtfilter/serve.py "$(DESTDIR)$(PREFIX)/bin/rtfilter-serve"
 	for kind in service socket; do \
