@@ -38,9 +38,12 @@ PREFORK := $(if $(shell command -v $(CC)),build/rtfilter-prefork.so)
 
 all: build/rtfilter $(PREFORK)
 
-# The crates of this repository that a crate stands on, those that stand on it, and its files and folders.
-below = $(filter $(CRATES),$(shell sed -n 's/^$(1)\( staticlib\)\?://p' crates.txt))
-all_below = $(sort $(foreach it,$(call below,$(1)),$(it) $(call all_below,$(it))))
+# The crates of this repository that a crate stands on, those that stand on it, and its files and folders. The first are found once, since
+# a shell takes a while, and crates.txt names a crate before those that stand on it.
+$(foreach it,$(CRATES),$(eval below_$(it) := $(filter $(CRATES),$(shell sed -n 's/^$(it)\( staticlib\)\?://p' crates.txt))))
+$(foreach it,$(CRATES),$(eval all_below_$(it) := $(sort $(below_$(it)) $(foreach lower,$(below_$(it)),$(all_below_$(lower))))))
+below = $(below_$(1))
+all_below = $(all_below_$(1))
 above = $(foreach crate,$(CRATES),$(if $(filter $(1),$(call all_below,$(crate))),$(crate)))
 sources = crates.txt $(shell find crates/$(1)/src crates/$(1)/specs crates/$(1)/proofs 2> /dev/null)
 
@@ -157,12 +160,12 @@ INSTALLED_LIBRARY := $(if $(or $(filter library,$(MAKECMDGOALS)),$(wildcard $(OU
 install: $(PROGRAM) $(PREFORK) $(INSTALLED_LIBRARY)
 	install -D $(PROGRAM) "$(DESTDIR)$(PREFIX)/bin/rtfilter"
 	install -D -m 644 docs/rtfilter.1 "$(SHARE)/man/man1/rtfilter.1"
-	install -D -m 644 packaging/rtfilter.bash "$(COMPLETIONS)/rtfilter"
+	install -D -m 644 packaging/completion.bash "$(COMPLETIONS)/rtfilter"
 ifdef PREFORK
 	install -d "$(SERVING)" "$(UNITS)"
 	install -m 644 $(PREFORK) $(SERVICE) "$(SERVING)"
 	install -D -m 644 docs/rtfilter-serve.1 "$(SHARE)/man/man1/rtfilter-serve.1"
-	install -D -m 644 packaging/rtfilter-serve.bash "$(COMPLETIONS)/rtfilter-serve"
+	install -D -m 644 packaging/completion.bash "$(COMPLETIONS)/rtfilter-serve"
 	chmod 755 "$(SERVING)/serve.py"
 	ln -sf ../lib/rtfilter/serve.py "$(DESTDIR)$(PREFIX)/bin/rtfilter-serve"
 	for kind in service socket; do \

@@ -33,8 +33,8 @@ PAGES = sorted(str(page.relative_to(ROOT)) for page in (ROOT / "docs").rglob("*.
 # What packages are made of, beside the program.
 SOURCES = [
     "Makefile", "VERSION", "README.md", "CONTRIBUTING.md", "CHANGELOG.md", "crates.txt", *PAGES, "include", "library", "bindings", "docs/pictures", "docs/rtfilter.1",
-    "docs/rtfilter-serve.1", "docs/rtfilter-fence.1", "docs/rtfilter-tiles.1", "packaging/rtfilter.bash", "packaging/rtfilter-serve.bash",
-    "packaging/rtfilter-fence.bash", "packaging/rtfilter-tiles.bash", "service/prefork.c", "service/serve.py", "service/service.py", "service/listening.py", "service/health.py", "service/prefork.py",
+    "docs/rtfilter-serve.1", "docs/rtfilter-fence.1", "docs/rtfilter-tiles.1", "packaging/completion.bash",
+    "service/prefork.c", "service/serve.py", "service/service.py", "service/listening.py", "service/health.py", "service/prefork.py",
     "service/rtfilter.service", "service/rtfilter.socket", "python/rtfilter", "python/engine", "python/setup.py", "python/pyproject.toml", "python/README.md",
     *(f"examples/{name}" for name in ("data", "languages", "library", "roads.py")),
 ]

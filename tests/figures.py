@@ -47,16 +47,12 @@ SHARED = [  # files, each with words that have {} for a number, which is the sam
     ],
     [("docs/service.md", "one line at a time | {} |"), ("docs/scaling.md", "[{} lines a second](service.md#speed)")],
     [("docs/library.md", "and four threads {} times]"), ("docs/scaling.md", "four threads answered {} times as many windows as one in [C]")],
-    [(TABLES, "Four threads answer {} times as many"), ("docs/scaling.md", "and {} times as many in [Python]")],
+    [(TABLES, "Four threads answer {} times as many"), ("docs/scaling.md", ", {} times in [Python]")],
     [
         (TABLES, "Searches reserve {} bytes of address space a box"), ("docs/library.md", "what its searches touch of {} n reserved bytes"),
         ("docs/limits.md", "reserved for each thread, session or connection | {} n |"),
     ],
-    [
-        (TABLES, "`Rtfilter.find`; shapely's `STRtree.query`; rtree | {};"), ("docs/scaling.md", "over 100,000 boxes, `find` {} µs"),
-        ("docs/python.md", "a window takes about [{} µs]"),
-    ],
-    [(TABLES, "`find_each`; geopandas | 0.58; {};"), ("docs/scaling.md", "`find_each` takes {} µs a window of 20 boxes")],
+    [(TABLES, "`Rtfilter.find`; shapely's `STRtree.query`; rtree | {};"), ("docs/python.md", "a window takes about [{} µs]")],
     [("docs/limits.md", "or later, and the library {}."), ("docs/library.md", "| C library | glibc {} or later")],
 ]  # fmt: skip
 

@@ -60,6 +60,11 @@ def printed(page: Path, tool: str, path: str = "") -> Iterator[tuple[str, str, s
         yield command, shown, done.stdout
 
 
+def output_of_program(table: Path, queries: bytes) -> bytes:
+    """What the program writes that is given these bytes alone."""
+    return subprocess.run([PROGRAM, table], input=queries, capture_output=True, timeout=120).stdout
+
+
 def wants(*tools: str) -> None:
     """Skips a test that needs these tools if one of them isn't installed."""
     missing = [tool for tool in tools if shutil.which(tool) is None]

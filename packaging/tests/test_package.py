@@ -403,7 +403,7 @@ class Completion(unittest.TestCase):
         start = Path(folder, ".start")
         start.write_text(
             f"PS1='{PROMPT}'; bind 'set enable-bracketed-paste off'; bind 'set bell-style none'; unset HISTFILE\n"
-            + "".join(f". '{ROOT}/packaging/{it}.bash'; {it}() {{ printf '<%s>' \"$@\"; echo; }}\n" for it in COMMANDS)
+            f". '{ROOT}/packaging/completion.bash'\n" + "".join(f"{it}() {{ printf '<%s>' \"$@\"; echo; }}\n" for it in COMMANDS)
         )
         child, self.terminal = pty.fork()
         if child == 0:

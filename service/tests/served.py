@@ -303,11 +303,6 @@ def read_lines(asker: socket.socket, count: int) -> bytes:
     return found
 
 
-def output_of_program(table: Path, queries: bytes) -> bytes:
-    """What the program writes that is given these bytes alone."""
-    return subprocess.run([PROGRAM, table], input=queries, capture_output=True, timeout=60).stdout
-
-
 def some_queries(chance: random.Random, count: int) -> bytes:
     """Sound and faulty lines, some skipped, some too long, the last one with its end or without."""
     lines = [random_runs.some_line(chance) for _ in range(count)]

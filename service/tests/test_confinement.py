@@ -9,8 +9,8 @@ import subprocess
 import unittest
 from pathlib import Path
 
-from served import BOXES, FLAGS, SOURCE, TRIES, Case, output_of_program, table_of
-from support import found, until, wants
+from served import BOXES, FLAGS, SOURCE, TRIES, Case, table_of
+from support import found, output_of_program, until, wants
 
 CALLS = {"read", "write", "munmap", "brk", "exit_group"}
 ERROR_OF_VALGRIND = 99

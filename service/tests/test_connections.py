@@ -14,9 +14,9 @@ from pathlib import Path
 
 from served import (
     BOXES, PROGRAM, Case, Served, all_of, answers, found, read_lines, send, some_pieces,
-    some_queries, table_of, talk, output_of_program, until,
+    some_queries, table_of, talk, until,
 )  # fmt: skip
-from support import seconds_of
+from support import output_of_program, seconds_of
 
 RESET = struct.pack("2i", 1, 0)  # of SO_LINGER: a close sends a reset
 NO_FORK = """

@@ -3,11 +3,9 @@
 import configparser
 import os
 import re
-import shutil
 import signal
 import socket
 import subprocess
-import tempfile
 from pathlib import Path
 
 from served import BOXES, PROGRAM, ROOT, Case, Started
@@ -18,21 +16,15 @@ PLAIN = {"PATH": "/usr/bin:/bin"}
 LEAST_EXPOSURE = 1.5
 
 
-def make(target: str, root: str) -> None:
-    """Makes a target of the Makefile, for a folder that stands for the system."""
-    places = f"PROGRAM={PROGRAM}", f"DESTDIR={root}", "PREFIX=/opt/it"
-    subprocess.run(["make", "--silent", "-C", ROOT, target, *places], check=True, stdout=subprocess.DEVNULL, env={**os.environ, "MAKEFLAGS": ""})
-
-
 class Installed(Case):
-    root: str
-    place: Path
+    def make(self, target: str) -> None:
+        places = f"PROGRAM={PROGRAM}", f"DESTDIR={self.folder}/root", "PREFIX=/opt/it"
+        subprocess.run(["make", "--silent", "-C", ROOT, target, *places], check=True, stdout=subprocess.DEVNULL, env={**os.environ, "MAKEFLAGS": ""})
 
-    @classmethod
-    def setUpClass(cls) -> None:
-        cls.root = cls.enterClassContext(tempfile.TemporaryDirectory())
-        cls.place = Path(cls.root, "opt/it")
-        make("install", cls.root)
+    def setUp(self) -> None:
+        super().setUp()
+        self.make("install")
+        self.place = Path(self.folder, "root/opt/it")
 
     def test_it_runs(self) -> None:
         """By the system's Python, from another folder, with nothing but the system's paths."""
@@ -44,9 +36,8 @@ class Installed(Case):
         self.assertEqual(service.process.returncode, 0)
 
     def test_it_is_removed(self) -> None:
-        root = shutil.copytree(self.root, f"{self.folder}/root", symlinks=True)
-        make("uninstall", root)
-        left = [path for path in Path(root).rglob("*") if not path.is_dir()]
+        self.make("uninstall")
+        left = [path for path in self.place.rglob("*") if not path.is_dir()]
         self.assertEqual(left, [])
 
     def test_units(self) -> None:

@@ -12,7 +12,7 @@ from pathlib import Path
 
 from prefork import library_of
 from served import Served
-from support import PROGRAM, ROOT
+from support import PROGRAM, ROOT, output_of_program
 
 HERE = Path(__file__).resolve().parent.parent
 LONG = 120  # seconds that a virtual machine may take on a busy machine
@@ -50,16 +50,13 @@ class Languages(unittest.TestCase):
         environment = {**os.environ, "HOME": self.folder}
         return subprocess.run(words, cwd=self.folder, env=environment, capture_output=True, text=True, timeout=LONG)
 
-    def program_says(self, lines: list[str]) -> str:
-        text = "".join(f"{line}\n" for line in lines)
-        return subprocess.run([PROGRAM, self.table], input=text, capture_output=True, text=True).stdout
-
     def test_each_prints_what_the_program_says(self) -> None:
         path = self.service(self.table)
+        expected = output_of_program(self.table, "".join(f"{line}\n" for line in LINES).encode()).decode()
         for name in COMMANDS:
             with self.subTest(name):
                 self.need(name)
-                self.assertEqual(self.said(name, path, LINES).stdout, self.program_says(LINES))
+                self.assertEqual(self.said(name, path, LINES).stdout, expected)
 
     def test_page(self) -> None:
         """The commands of the page, over sockets of their own, print what it shows."""

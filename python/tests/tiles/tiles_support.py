@@ -16,7 +16,7 @@ from http.client import HTTPConnection, HTTPResponse
 from pathlib import Path
 from typing import Any
 
-from support import LONGEST, PROGRAM, environment, seconds_of
+from support import LONGEST, environment, output_of_program, seconds_of
 
 BOXES = 30_000
 COMMAND = [sys.executable, "-B", "-m", "rtfilter.tiles"]
@@ -46,10 +46,8 @@ def large_map() -> Path:
 
 def replies_of(table: Path, lines: Iterable[str]) -> list[list[str]]:
     """What the program writes for each line, the last line of each reply included, where each line has a reply."""
-    queries = "".join(line + "\n" for line in lines)
-    done = subprocess.run([PROGRAM, table], input=queries, capture_output=True, text=True, timeout=LONGEST)
     replies: list[list[str]] = [[]]
-    for line in done.stdout.splitlines():
+    for line in output_of_program(table, "".join(line + "\n" for line in lines).encode()).decode().splitlines():
         replies[-1].append(line)
         if line.startswith(("ok ", "error ")):
             replies.append([])
