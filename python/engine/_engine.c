@@ -930,7 +930,7 @@ static PyObject *holding(PyObject *Py_UNUSED(module), PyObject *args)
     PyObject *held = PyList_New(0);
     for (Py_ssize_t at = 0; held && at < PyList_Size(some); at++) {
         PyObject *part = PyList_GetItem(some, at);
-        const int64_t number = PyLong_AsLongLong(part);
+        const int64_t number = PyLong_CheckExact(part) ? PyLong_AsLongLong(part) : -1; /* (another type's code could change the list) */
         if (PyErr_Occurred() || !is_part(&it, number) || (holds(&it, number, x, y) && PyList_Append(held, part) < 0))
             Py_CLEAR(held);
     }

@@ -62,8 +62,9 @@ class Connection(asyncio.Protocol):
 class Client:
     """A table that a service holds. The calls and errors are those of `rtfilter.Client`.
 
-    It connects with its first call. Its connection answers one call at a time, in the order of the calls. A call that is
-    cancelled or takes longer than `timeout` seconds closes the connection, and the next call connects again.
+    It connects with its first call. Its connection answers one call at a time, in the order of the calls, all of which are made in
+    one event loop. A call that is cancelled or takes longer than `timeout` seconds closes the connection, and the next call
+    connects again.
     """
 
     def __init__(self, address: Address, timeout: float | None = None) -> None:
@@ -72,6 +73,9 @@ class Client:
         self._lock = asyncio.Lock()
         self._connection: Connection | None = None
         self._is_closed = False
+
+    def __reduce__(self) -> str:
+        raise TypeError("a client can't be pickled: make one in each process")
 
     async def __aenter__(self) -> Self:
         return self

@@ -220,7 +220,7 @@ class Queries:
         some.columns = [it[at] for it in self.columns]
         return some
 
-    def found_in(self, table: _engine.Table, has_scores: bool, exact: tuple[Any, ...]) -> tuple[Any, Any, Any]:
+    def found_in(self, table: _engine.Table, has_scores: bool, exact: tuple[Any, ...] = ()) -> tuple[Any, Any, Any]:
         """The answers of a table: places, ids and perhaps scores. With `exact`, boxes and windows in floats, those that don't meet
         are left out."""
         places, ids, scores = bytearray(), bytearray(), bytearray() if has_scores else None

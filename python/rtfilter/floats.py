@@ -93,13 +93,13 @@ class FloatBoxes:
         min_x, min_y, max_x, max_y = whole.T
         queries = Queries(Window, [min_x, max_x, min_y, max_y], None, None, None)
         exact = (self.bounds, sound) if is_exact and not (are_whole and self._is_whole) else ()
-        places, ids, _ = self.table._found(queries, False, exact)
+        places, ids, _ = queries.found_in(self.table, False, exact)
         return having[places], ids
 
     def close_to(self, bounds: Floats, k: int) -> tuple[Places, Places]:
         """The places of bounds, and of k boxes that are close to each of them, or of all boxes: not always the nearest."""
         having = numpy.flatnonzero(~numpy.isnan(bounds).any(axis=1))
-        places, ids, _ = self.table._found(Nearest([*self._grid.points(bounds[having]).T], k), False)
+        places, ids, _ = Nearest([*self._grid.points(bounds[having]).T], k).found_in(self.table, False)
         return having[places], ids
 
     def nearest(self, bounds: Floats, k: int) -> list[int]:

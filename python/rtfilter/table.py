@@ -132,8 +132,8 @@ class Rtfilter(_engine.Table, Closable, BulkCalls):
         texts = listed(lines)
         return cut(self._text(joined(texts)), texts)
 
-    def _found(self, queries: "Queries", has_scores: bool, exact: tuple[Any, ...] = ()) -> tuple[Any, Any, Any]:
-        return queries.found_in(self, has_scores, exact)
+    def _found(self, queries: "Queries", has_scores: bool) -> tuple[Any, Any, Any]:
+        return queries.found_in(self, has_scores)
 
     def _counted(self, queries: "Queries") -> "NDArray[Any]":
         return queries.counted_in(self)
