@@ -194,6 +194,12 @@ class Caches(Mapped):
             self.assertEqual(len(reply.read()), int(reply.headers["Content-Length"]))
             self.assertEqual(reply.headers["Content-Encoding"], encoding, lines)
 
+    def test_headers_that_are_long(self) -> None:
+        """They take little time."""
+        lines, begun = f"Accept-Encoding: gzip{' ' * 8000}x\r\n" * 50, self.server.seconds()
+        self.assertEqual(self.server.reply_to(f"GET {TILE} HTTP/1.1\r\nHost: localhost\r\n{lines}\r\n".encode())[0].status, 200)
+        self.assertLess(self.server.seconds() - begun, 1)
+
 
 class Origins(Mapped):
     def test_pages_that_may_read(self) -> None:
