@@ -1,14 +1,16 @@
 """What tests around the program share: paths, and the examples of pages."""
 
+import contextlib
 import errno
 import os
 import re
 import shutil
 import subprocess
 import sys
+import threading
 import time
 import unittest
-from collections.abc import Callable, Iterator
+from collections.abc import Callable, Iterable, Iterator
 from pathlib import Path
 from typing import Any
 
@@ -94,6 +96,19 @@ def until(is_so: Callable[[], Any], what: str = "what is waited for") -> Any:
             raise TimeoutError(f"{what} doesn't come")
         time.sleep(0.005)
     return value
+
+
+@contextlib.contextmanager
+def all_of(threads: Iterable[threading.Thread]) -> Iterator[None]:
+    """Threads that run meanwhile, and are waited for."""
+    begun = list(threads)
+    for thread in begun:
+        thread.start()
+    try:
+        yield
+    finally:
+        for thread in begun:
+            thread.join()
 
 
 def opened_for_writing(pipe: Path) -> int:

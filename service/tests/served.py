@@ -328,16 +328,3 @@ def table_of(folder: str, name: str, first: int, count: int) -> Path:
 def answers(first: int, count: int) -> bytes:
     """What `find all` is answered over such a table."""
     return b"".join(b"%d 0\n" % id for id in range(first, first + count))
-
-
-@contextlib.contextmanager
-def all_of(threads: Iterable[threading.Thread]) -> Iterator[None]:
-    """Threads that run meanwhile, and are waited for."""
-    begun = list(threads)
-    for thread in begun:
-        thread.start()
-    try:
-        yield
-    finally:
-        for thread in begun:
-            thread.join()

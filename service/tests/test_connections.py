@@ -13,10 +13,10 @@ import time
 from pathlib import Path
 
 from served import (
-    BOXES, PROGRAM, Case, Served, all_of, answers, found, read_lines, send, some_pieces,
+    BOXES, PROGRAM, Case, Served, answers, found, read_lines, send, some_pieces,
     some_queries, table_of, talk, until,
 )  # fmt: skip
-from support import output_of_program, seconds_of
+from support import all_of, output_of_program, seconds_of
 
 RESET = struct.pack("2i", 1, 0)  # of SO_LINGER: a close sends a reset
 NO_FORK = """

@@ -13,9 +13,8 @@ import time
 from pathlib import Path
 from typing import Any
 
-from served import (
-    BOXES, PROGRAM, TRIES, Case, all_of, answers, is_there, read_lines, send, stop, table_of, until,
-)  # fmt: skip
+from served import BOXES, PROGRAM, TRIES, Case, answers, is_there, read_lines, send, stop, table_of, until
+from support import all_of
 
 
 class Ends(Case):

@@ -10,8 +10,8 @@ import threading
 import time
 from pathlib import Path
 
-from served import BOXES, PROGRAM, Case, Served, all_of, answers, read_lines, send, until
-from support import AT_IMPORT, HANG_UP, INTERRUPT, output_of_program
+from served import BOXES, PROGRAM, Case, Served, answers, read_lines, send, until
+from support import AT_IMPORT, HANG_UP, INTERRUPT, all_of, output_of_program
 
 
 class Exchanges(Case):

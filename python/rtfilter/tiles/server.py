@@ -27,7 +27,7 @@ NUMBER = re.compile(r"-?[0-9]{1,10}")
 LINE = re.compile(r"[^\n\ud800-\udfff]*")
 LAYERS = re.compile(r"[0-9]{1,2}(,[0-9]{1,2}){0,63}")
 TAG = re.compile(r'"([^"]*)"')
-GZIP = re.compile(r"(^|[\s,])gzip\s*(?!\s*;\s*q=0(\.0*)?\s*(,|$))(;|,|$)", re.IGNORECASE)
+NO_WEIGHT = re.compile(r"q=0(\.0*)?", re.IGNORECASE)
 HEADERS = {
     "Server": "rtfilter-tiles",
     "Content-Security-Policy": "default-src 'none'; script-src 'self'; style-src 'self'; connect-src 'self'; "
@@ -227,7 +227,8 @@ def reply(request: web.Request, kind: str, body: bytes) -> web.Response:
 
 def takes_gzip(request: web.Request) -> bool:
     """Whether the client takes gzip, by its name."""
-    return GZIP.search(", ".join(request.headers.getall("Accept-Encoding", []))) is not None
+    codings = (it.partition(";") for it in ",".join(request.headers.getall("Accept-Encoding", [])).split(","))
+    return any(name.strip().lower() == "gzip" and not NO_WEIGHT.fullmatch(weight.strip()) for name, _, weight in codings)
 
 
 def host_of(origin: str) -> str | None:
@@ -240,7 +241,7 @@ def host_of(origin: str) -> str | None:
 
 def parameters(query: MultiMapping[str], *names: str) -> dict[str, str]:
     """The parameters of a query, each of these names once at most."""
-    found = {name: query[name] for name in query}
+    found = dict(query.items())
     if len(found) < len(query) or not found.keys() <= {*names}:
         raise web.HTTPBadRequest(reason=f"parameters are {', '.join(names)}, each once" if names else "there are no parameters here")
     return found

@@ -25,7 +25,7 @@ from unittest import mock
 
 from aiohttp.test_utils import TestClient, TestServer
 from chromium import Chromium
-from support import LONGEST, ROOT, environment, found, until, wants
+from support import LONGEST, ROOT, all_of, environment, found, until, wants
 from tiles_support import BOXES, COMMAND, Mapped, Server, large_map
 
 from rtfilter.tiles import command, server as serving
@@ -193,6 +193,12 @@ class Caches(Mapped):
             reply = connection.getresponse()
             self.assertEqual(len(reply.read()), int(reply.headers["Content-Length"]))
             self.assertEqual(reply.headers["Content-Encoding"], encoding, lines)
+
+    def test_headers_that_are_long(self) -> None:
+        """They take little time."""
+        lines, begun = f"Accept-Encoding: gzip{' ' * 8000}x\r\n" * 50, self.server.seconds()
+        self.assertEqual(self.server.reply_to(f"GET {TILE} HTTP/1.1\r\nHost: localhost\r\n{lines}\r\n".encode())[0].status, 200)
+        self.assertLess(self.server.seconds() - begun, 1)
 
 
 class Origins(Mapped):
@@ -471,13 +477,9 @@ class Many(Mapped):
             for _ in range(5):
                 faults.extend(target for target in targets if self.server.get(target)[1] != alone[target])
 
-        threads = [threading.Thread(target=ask) for _ in range(12)]
-        for it in threads:
-            it.start()
-        for it in threads:
-            it.join(LONGEST)
+        with all_of(threading.Thread(target=ask) for _ in range(12)):
+            pass
         self.assertEqual(faults, [])
-
 
     def test_clients_that_leave(self) -> None:
         """Nothing is done for those whose turn hasn't come: others are answered meanwhile."""
@@ -509,11 +511,9 @@ class Cost(unittest.TestCase):
 @contextlib.contextmanager
 def files_served(folder: Path) -> Iterator[int]:
     """A server of another origin, by its port."""
-    with ThreadingHTTPServer(("127.0.0.1", 0), functools.partial(SimpleHTTPRequestHandler, directory=str(folder))) as server:
-        thread = threading.Thread(target=server.serve_forever)
-        thread.start()
+    handler = functools.partial(SimpleHTTPRequestHandler, directory=str(folder))
+    with ThreadingHTTPServer(("127.0.0.1", 0), handler) as server, all_of([threading.Thread(target=server.serve_forever)]):
         try:
             yield server.server_address[1]
         finally:
             server.shutdown()
-            thread.join()
