@@ -39,6 +39,11 @@ def rows_of(bounds: Any, what: str) -> Floats:
     return rows
 
 
+def having_numbers(bounds: Floats) -> Places:
+    """The places of bounds without NaN."""
+    return numpy.flatnonzero(~numpy.isnan(bounds).any(axis=1))
+
+
 def rounding() -> Any:
     """A block in which numbers may become infinite or 0, whatever their user had numpy raise."""
     return numpy.errstate(over="ignore", under="ignore")
@@ -75,19 +80,19 @@ class FloatBoxes:
 
     def __init__(self, bounds: Floats) -> None:
         self.bounds = bounds
-        ids = numpy.flatnonzero(~numpy.isnan(bounds).any(axis=1))
+        ids = having_numbers(bounds)
         self._grid = Grid(bounds[ids])
         whole, self._is_whole = self._grid.widened(bounds[ids])
         self.table = Rtfilter.from_bounds(whole, ids=ids)
 
     def extent(self) -> list[float]:
         """The least box around all boxes, as min_x, min_y, max_x, max_y; infinite, and turned, for none."""
-        rows = self.bounds[~numpy.isnan(self.bounds).any(axis=1)]
+        rows = self.bounds[having_numbers(self.bounds)]
         return [*rows[:, :2].min(0, initial=numpy.inf).tolist(), *rows[:, 2:].max(0, initial=-numpy.inf).tolist()]
 
     def meeting(self, bounds: Floats, is_exact: bool = True) -> tuple[Places, Places]:
         """The places of bounds, and of the boxes that overlap each of them; perhaps more, if it needn't be exact."""
-        having = numpy.flatnonzero(~numpy.isnan(bounds).any(axis=1))
+        having = having_numbers(bounds)
         sound = numpy.ascontiguousarray(bounds[having])
         whole, are_whole = self._grid.widened(sound)
         min_x, min_y, max_x, max_y = whole.T
@@ -98,7 +103,7 @@ class FloatBoxes:
 
     def close_to(self, bounds: Floats, k: int) -> tuple[Places, Places]:
         """The places of bounds, and of k boxes that are close to each of them, or of all boxes: not always the nearest."""
-        having = numpy.flatnonzero(~numpy.isnan(bounds).any(axis=1))
+        having = having_numbers(bounds)
         places, ids, _ = Nearest([*self._grid.points(bounds[having]).T], k).found_in(self.table, False)
         return having[places], ids
 

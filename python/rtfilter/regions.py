@@ -12,7 +12,7 @@ LAYER_COUNT = 64
 
 
 class _OwnKind(tuple[Any, ...]):
-    """Makes a tuple equal to those of its own class alone."""
+    """Makes a tuple equal to those of its own class alone. Its text is the name of the class and whole numbers."""
 
     __slots__ = ()
 
@@ -24,6 +24,9 @@ class _OwnKind(tuple[Any, ...]):
 
     def __hash__(self) -> int:
         return tuple.__hash__(self)
+
+    def __str__(self) -> str:
+        return " ".join([type(self).__name__.lower(), *(str(index(it)) for it in self)])
 
 
 class _Box(_OwnKind):
@@ -40,18 +43,12 @@ class _Box(_OwnKind):
             raise TypeError(f"bounds are min_x, min_y, max_x and max_y, and not {bounds!r:.50}") from None
         return tuple.__new__(cls, (min_x, max_x, min_y, max_y))
 
-    def __str__(self) -> str:
-        return " ".join([type(self).__name__.lower(), *(str(index(it)) for it in self)])
-
 
 # (each class has a named tuple of its own, so that an error names the class)
 class All(_OwnKind, NamedTuple("All", [])):
     """Every box."""
 
     __slots__ = ()
-
-    def __str__(self) -> str:
-        return "all"
 
 
 class Window(_Box, NamedTuple("Window", [("min_x", int), ("max_x", int), ("min_y", int), ("max_y", int)])):
@@ -76,9 +73,6 @@ class Circle(_OwnKind, NamedTuple("Circle", [("x", int), ("y", int), ("radius", 
     """The boxes with a point at most `radius` away from (x, y). Without another order, the nearest come first."""
 
     __slots__ = ()
-
-    def __str__(self) -> str:
-        return f"circle {index(self.x)} {index(self.y)} {index(self.radius)}"
 
 
 class Polygon(_OwnKind, NamedTuple("Polygon", [("vertices", tuple[tuple[int, int], ...])])):
@@ -105,17 +99,11 @@ class Near(_OwnKind, NamedTuple("Near", [("x", int), ("y", int)])):
 
     __slots__ = ()
 
-    def __str__(self) -> str:
-        return f"near {index(self.x)} {index(self.y)}"
-
 
 class Smallest(_OwnKind, NamedTuple("Smallest", [])):
     """Orders boxes by their area."""
 
     __slots__ = ()
-
-    def __str__(self) -> str:
-        return "smallest"
 
 
 Region = Union[All, Window, Inside, Covers, Circle, Polygon]

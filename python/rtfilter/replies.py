@@ -88,7 +88,9 @@ def lines_question(lines: Iterable[str]) -> Question[list[Reply]]:
 
 def text_question(lines: bytes) -> Question[bytes]:
     """The bytes of lines, whose replies are numbered from 1."""
-    text = ended(lines)
+    text = bytes_of(lines)
+    if text and not text.endswith(b"\n"):
+        text += b"\n"
     return Question(text + MARKER, text.count(b"\n") + 1, renumbered)
 
 
@@ -105,12 +107,6 @@ def bytes_of(lines: Any) -> bytes:
     if isinstance(lines, str):
         raise TypeError("lines are bytes, and not a str: encode it")
     return lines if isinstance(lines, bytes) else bytes(memoryview(lines))
-
-
-def ended(lines: bytes) -> bytes:
-    """Lines of which the last one ends with a line feed too."""
-    whole = bytes_of(lines)
-    return whole if not whole or whole.endswith(b"\n") else whole + b"\n"
 
 
 def renumbered(text: bytes, first: int) -> bytes:

@@ -157,6 +157,33 @@ def test_refused(boxes: Rtfilter, make: Any, error: type[Exception], words: str)
     assert boxes.count(All()) == 5
 
 
+class Closing:
+    """A number that closes a table as it is read."""
+
+    def __init__(self, table: Rtfilter) -> None:
+        self._table = table
+
+    def __index__(self) -> int:
+        self._table.close()
+        return 1
+
+
+@pytest.mark.parametrize(
+    "call",
+    [
+        lambda it, number: it.find(Window(0, number, 0, 9)),
+        lambda it, number: it.find(Polygon([(0, 0), (9, number), (4, 9)]), first=number, on=number),
+        lambda it, number: it.nearest(number, 0, number),
+        lambda it, number: it.count(Circle(0, number, 9), on=[number]),
+        lambda it, number: it.find_each([(0, number, 0, 9)]),
+        lambda it, number: it.nearest_each([(0, 0)], number),
+    ],
+)
+def test_arguments_that_close_the_table(boxes: Rtfilter, call: Any) -> None:
+    with pytest.raises(ValueError, match="^the table was closed$"):
+        call(boxes, Closing(boxes))
+
+
 def test_invalid_queries_among_many(boxes: Rtfilter) -> None:
     sound = [(0, 10, 0, 10)]
     for count in (0, 1, 5, 4095, 4096, 9000):
