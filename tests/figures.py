@@ -42,14 +42,13 @@ SHARED = [  # files, each with words that have {} for a number, which is the sam
         ("service/rtfilter.service", "MemoryMax={}G"),
     ],
     [
-        ("README.md", "or fewer than {} if the boxes are in an SQLite R*Tree file"), ("docs/faq.md", "fewer than about {} windows per start"),
-        (TABLES, "Up to about {}, an existing SQLite R*Tree file is"),
+        ("README.md", "or fewer than {} if the boxes are in an SQLite R*Tree file"), (TABLES, "Up to about {}, an existing SQLite R*Tree file is"),
     ],
     [("docs/service.md", "one line at a time | {} |"), ("docs/scaling.md", "[{} lines a second](service.md#speed)")],
     [("docs/library.md", "and four threads {} times]"), ("docs/scaling.md", "four threads answered {} times as many windows as one in [C]")],
     [(TABLES, "Four threads answer {} times as many"), ("docs/scaling.md", ", {} times in [Python]")],
     [
-        (TABLES, "Searches reserve {} bytes of address space a box"), ("docs/library.md", "what its searches touch of {} n reserved bytes"),
+        ("docs/library.md", "what its searches touch of {} n reserved bytes"),
         ("docs/limits.md", "reserved for each thread, session or connection | {} n |"),
     ],
     [(TABLES, "`Rtfilter.find`; shapely's `STRtree.query`; rtree | {};"), ("docs/python.md", "a window takes about [{} µs]")],

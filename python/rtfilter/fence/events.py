@@ -9,6 +9,8 @@ from .log import Past
 from .positions import Position, Refusal, numbers_of, positions_of
 from .zones import Held, NamedZones
 
+MANY = 20  # zones: among fewer a search takes less time than sets of them
+
 
 class Fence:
     """Zones and devices. `zones` may be assigned again at any time, by any thread."""
@@ -73,8 +75,9 @@ class Fence:
 
 def event_lines(position: Position, before: Held, held: Held) -> Iterator[str]:
     """A line for each zone that is left, and then for each that is entered."""
-    changes = [("leave", zone) for zone in before if zone not in held]
-    changes += [("enter", zone) for zone in held if zone not in before]
+    was_in, is_in = (before, held) if len(before) + len(held) < MANY else ({*before}, {*held})
+    changes = [("leave", zone) for zone in before if zone not in is_in]
+    changes += [("enter", zone) for zone in held if zone not in was_in]
     if changes:
         line, device, _, _, _, match = position
         longitude, latitude, time = numbers_of(match)

@@ -26,7 +26,6 @@ TILE = re.compile(r"/(0|[1-9][0-9]?)/(0|[1-9][0-9]{0,6})/(0|[1-9][0-9]{0,6})\.pb
 NUMBER = re.compile(r"-?[0-9]{1,10}")
 LINE = re.compile(r"[^\n\ud800-\udfff]*")
 LAYERS = re.compile(r"[0-9]{1,2}(,[0-9]{1,2}){0,63}")
-TAG = re.compile(r'"([^"]*)"')
 NO_WEIGHT = re.compile(r"q=0(\.0*)?", re.IGNORECASE)
 HEADERS = {
     "Server": "rtfilter-tiles",
@@ -132,7 +131,7 @@ class Server:
     def _kept(self, request: web.Request, kind: str, body_of: Callable[[], bytes], max_age: int = 0) -> web.Response:
         """A reply that another table alone would change. It isn't made again for a client that has it."""
         known = ", ".join(request.headers.getall("If-None-Match", []))
-        if known.strip() == "*" or self.served.tag in TAG.findall(known):
+        if known.strip() == "*" or f'"{self.served.tag}"' in known:
             response = web.Response(status=304)
         else:
             response = reply(request, kind, body_of())

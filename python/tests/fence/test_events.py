@@ -7,6 +7,7 @@ import re
 import signal
 import subprocess
 import sys
+import time
 from fractions import Fraction
 from pathlib import Path
 from typing import Any
@@ -233,6 +234,17 @@ def test_reads_of_any_length(size: int, zones: Path, monkeypatch: pytest.MonkeyP
         patched.setattr(command, "write", written.extend)
         command.answer(Fence(loaded, Devices(9)), 1)
     assert bytes(written) == Fence(loaded, Devices(9)).events(1, text.split(b"\n"))
+
+
+def test_many_zones_at_one_place(tmp_path: Path) -> None:
+    """A position takes no longer than in proportion to them."""
+    file = tmp_path / "zones.geojson"
+    write_zones(file, [feature("half", square(0, 0, 5)), *(feature(id, square(0, 0, 10)) for id in range(3000))])
+    fence = Fence(NamedZones(str(file), "layer", ""), Devices(1))
+    assert fence.events(1, [b"a,1,1,0"]).count(b"\n") == 3001
+    begun = time.process_time()
+    assert fence.events(2, [b"a,%d,1,1" % (9 - at % 2 * 8) for at in range(20)]).count(b"\n") == 20
+    assert time.process_time() - begun < 2
 
 
 def test_processor_time() -> None:
