@@ -137,24 +137,29 @@ static void table_free(PyObject *self)
 
 /* ---- Buffers */
 
-/* Views a contiguous buffer of items of one size, as many as *len if that isn't negative; else sets it. */
-static bool view_items(PyObject *from, Py_buffer *view, Py_ssize_t size, Py_ssize_t *len)
-{
-    if (PyObject_GetBuffer(from, view, PyBUF_C_CONTIGUOUS) < 0)
-        return false;
-    if (view->len % size == 0 && (*len < 0 || view->len == *len * size)) {
-        *len = view->len / size;
-        return true;
-    }
-    PyErr_Format(PyExc_TypeError, "a buffer of %zd bytes for %zd items of %zd bytes", view->len, *len, size);
-    PyBuffer_Release(view);
-    return false;
-}
-
 static void release(Py_buffer *views, int count)
 {
     while (count > 0)
         PyBuffer_Release(views + --count);
+}
+
+/* Views contiguous buffers of items of these sizes, or none of them. With *len, which is set, all have as many items. */
+static bool view_all(int count, PyObject *const *from, const Py_ssize_t *sizes, Py_buffer *views, Py_ssize_t *len)
+{
+    for (int at = 0; at < count; at++) {
+        if (PyObject_GetBuffer(from[at], views + at, PyBUF_C_CONTIGUOUS) < 0) {
+            release(views, at);
+            return false;
+        }
+        const Py_ssize_t bytes = views[at].len, items = bytes / sizes[at];
+        if (bytes % sizes[at] != 0 || (len && at > 0 && items != *len)) {
+            release(views, at + 1);
+            return PyErr_Format(PyExc_TypeError, "a buffer of %zd bytes, and not as many items of %zd bytes", bytes, sizes[at]);
+        }
+        if (len)
+            *len = items;
+    }
+    return true;
 }
 
 /* ---- Opening */
@@ -244,11 +249,10 @@ static PyObject *open_arrays(PyTypeObject *type, PyObject *args)
     const bool has_layers = from[LAYERS] != Py_None;
     const int columns = has_layers ? COLUMNS : LAYERS;
     Py_buffer of[COLUMNS] = {0};
-    Py_ssize_t len = -1;
-    int count = 0;
-    while (count < columns && view_items(from[count], of + count, sizes[count], &len))
-        count++;
-    Table *self = count == columns ? (Table *)PyType_GenericAlloc(type, 0) : NULL;
+    Py_ssize_t len;
+    if (!view_all(columns, from, sizes, of, &len))
+        return NULL;
+    Table *self = (Table *)PyType_GenericAlloc(type, 0);
     if (self) {
         const rtfilter_settings settings = settings_of(0, fanout, most);
         const uint8_t *layers = has_layers && len > 0 ? of[LAYERS].buf : NULL;
@@ -260,7 +264,7 @@ static PyObject *open_arrays(PyTypeObject *type, PyObject *args)
         Py_END_ALLOW_THREADS
         table = opened(self, code, &fault);
     }
-    release(of, count);
+    release(of, columns);
     return table;
 }
 
@@ -763,7 +767,7 @@ static PyObject *find_each(Table *self, PyObject *args)
 {
     PyObject *from[3] = {NULL}, *places, *ids, *scores;
     Py_buffer of[3] = {0};
-    Py_ssize_t lens[3] = {-1, -1, -1}, count;
+    Py_ssize_t count;
     const Py_ssize_t sizes[3] = {sizeof(rtfilter_query), 4 * sizeof(double), 4 * sizeof(double)};
     finding it = {0};
     if (!PyArg_ParseTuple(args, "OnnO!O!On|OO", from, &it.place, &it.total, &PyByteArray_Type, &places, &PyByteArray_Type, &ids, &scores,
@@ -771,19 +775,18 @@ static PyObject *find_each(Table *self, PyObject *args)
         return NULL;
     if (it.place < 0 || count < 0 || !(scores == Py_None || PyByteArray_Check(scores)))
         return PyErr_Format(PyExc_TypeError, "a negative place or number, or scores that are no bytearray");
-    const int needed = from[2] ? 3 : 1;
-    int views = 0;
-    while (views < needed && view_items(from[views], of + views, sizes[views], lens + views))
-        views++;
-    worker *by = views == needed ? take(self) : NULL;
+    const int views = from[2] ? 3 : 1;
+    if (!view_all(views, from, sizes, of, NULL))
+        return NULL;
+    worker *by = take(self);
     bool is_done = false;
     if (by) {
-        it.left = (rtfilter_queries){of[0].buf, (size_t)lens[0], NULL, 0};
+        it.left = (rtfilter_queries){of[0].buf, (size_t)(of[0].len / sizes[0]), NULL, 0};
         it.kept = (size_t)count;
         it.boxes = of[1].buf;
-        it.windows = from[2] ? of[2].buf : NULL;
-        it.box_count = lens[1];
-        it.window_count = lens[2];
+        it.windows = of[2].buf;
+        it.box_count = of[1].len / sizes[1];
+        it.window_count = of[2].len / sizes[2];
         is_done = answer_all(by, &it, places, ids, scores);
         give_back(self, by);
     }
@@ -796,8 +799,9 @@ static PyObject *count_each(Table *self, PyObject *args)
 {
     PyObject *from, *all = NULL;
     Py_buffer view;
-    Py_ssize_t len = -1, place;
-    if (!PyArg_ParseTuple(args, "On", &from, &place) || !view_items(from, &view, sizeof(rtfilter_query), &len))
+    Py_ssize_t len, place;
+    const Py_ssize_t size = sizeof(rtfilter_query);
+    if (!PyArg_ParseTuple(args, "On", &from, &place) || !view_all(1, &from, &size, &view, &len))
         return NULL;
     worker *by = take(self);
     if (by) {
@@ -868,42 +872,27 @@ static PyObject *table_info(Table *self, PyObject *Py_UNUSED(unused))
 
 /* ---- Points in polygons */
 
+/* Polygons in whole numbers: lists with items of 8 bytes. Corners have x and y of 32 bits, and the last one of a ring is its first one.
+ * Rings and parts have where each ring begins, and each part, and one more for the last end. */
 enum { CORNERS, RINGS, PARTS, LISTS };
-
-/* Polygons in whole numbers: parts that consist of rings, whose last corner is the first one again. */
-typedef struct {
-    Py_buffer of[LISTS]; /* corners, as x and y of 32 bits; where each ring begins, and each part, and one more for the last end */
-    Py_ssize_t lens[LISTS];
-} polygons;
-
-static bool view_polygons(polygons *it, PyObject *const *from)
-{
-    for (int at = 0; at < LISTS; at++) {
-        it->lens[at] = -1;
-        if (!view_items(from[at], it->of + at, 8, it->lens + at)) {
-            release(it->of, at);
-            return false;
-        }
-    }
-    return true;
-}
+static const Py_ssize_t EIGHT[LISTS] = {8, 8, 8};
 
 /* Whether there is such a part, all of whose rings have corners. */
-static bool is_part(const polygons *it, int64_t part)
+static bool is_part(const Py_buffer *polygons, int64_t part)
 {
-    const int64_t *rings = it->of[RINGS].buf, *parts = it->of[PARTS].buf;
-    bool is_sound = part >= 0 && part < it->lens[PARTS] - 1 && parts[part] >= 0 && parts[part + 1] < it->lens[RINGS];
+    const int64_t *rings = polygons[RINGS].buf, *parts = polygons[PARTS].buf;
+    bool is_sound = part >= 0 && part < polygons[PARTS].len / 8 - 1 && parts[part] >= 0 && parts[part + 1] < polygons[RINGS].len / 8;
     for (int64_t ring = is_sound ? parts[part] : 0; is_sound && ring < parts[part + 1]; ring++)
-        is_sound = rings[ring] >= 0 && rings[ring + 1] <= it->lens[CORNERS];
+        is_sound = rings[ring] >= 0 && rings[ring + 1] <= polygons[CORNERS].len / 8;
     return is_sound || PyErr_Format(PyExc_IndexError, "no such part");
 }
 
 /* Whether a point is on the rings of a part, or a ray from it crosses them an odd number of times. Exact: 66 bits suffice. */
-static bool holds(const polygons *it, int64_t part, int64_t x, int64_t y)
+static bool holds(const Py_buffer *polygons, int64_t part, int64_t x, int64_t y)
 {
     __extension__ typedef __int128 wide;
-    const int32_t *corners = it->of[CORNERS].buf;
-    const int64_t *rings = it->of[RINGS].buf, *parts = it->of[PARTS].buf;
+    const int32_t *corners = polygons[CORNERS].buf;
+    const int64_t *rings = polygons[RINGS].buf, *parts = polygons[PARTS].buf;
     bool is_odd = false;
     for (int64_t ring = parts[part]; ring < parts[part + 1]; ring++)
         for (int64_t at = rings[ring]; at + 1 < rings[ring + 1]; at++) {
@@ -923,28 +912,29 @@ static bool holds(const polygons *it, int64_t part, int64_t x, int64_t y)
 static PyObject *holding(PyObject *Py_UNUSED(module), PyObject *args)
 {
     PyObject *from[LISTS], *some;
-    polygons it;
+    Py_buffer polygons[LISTS];
     int x, y;
-    if (!PyArg_ParseTuple(args, "OOOO!ii", from, from + 1, from + 2, &PyList_Type, &some, &x, &y) || !view_polygons(&it, from))
+    if (!PyArg_ParseTuple(args, "OOOO!ii", from, from + 1, from + 2, &PyList_Type, &some, &x, &y) ||
+        !view_all(LISTS, from, EIGHT, polygons, NULL))
         return NULL;
     PyObject *held = PyList_New(0);
     for (Py_ssize_t at = 0; held && at < PyList_Size(some); at++) {
         PyObject *part = PyList_GetItem(some, at);
         const int64_t number = PyLong_CheckExact(part) ? PyLong_AsLongLong(part) : -1; /* (another type's code could change the list) */
-        if (PyErr_Occurred() || !is_part(&it, number) || (holds(&it, number, x, y) && PyList_Append(held, part) < 0))
+        if (PyErr_Occurred() || !is_part(polygons, number) || (holds(polygons, number, x, y) && PyList_Append(held, part) < 0))
             Py_CLEAR(held);
     }
-    release(it.of, LISTS);
+    release(polygons, LISTS);
     return held;
 }
 
 /* Decides pairs from a place on until all are decided, or it is time to look for a signal: where the next one stands. */
-static Py_ssize_t hold_slice(const polygons *it, const int64_t *parts, const int32_t *points, char *into, Py_ssize_t at, Py_ssize_t len)
+static Py_ssize_t hold_slice(const Py_buffer *polygons, const int64_t *parts, const int32_t *points, char *into, Py_ssize_t at, Py_ssize_t len)
 {
     const int64_t begun = nanoseconds();
     for (Py_ssize_t step = 1; at < len && nanoseconds() - begun < SLICE_NS; step = step < STEP ? 2 * step : STEP)
         for (const Py_ssize_t end = len - at < step ? len : at + step; at < end; at++)
-            into[at] = holds(it, parts[at], points[2 * at], points[2 * at + 1]);
+            into[at] = holds(polygons, parts[at], points[2 * at], points[2 * at + 1]);
     return at;
 }
 
@@ -952,28 +942,26 @@ static Py_ssize_t hold_slice(const polygons *it, const int64_t *parts, const int
 static PyObject *holds_each(PyObject *Py_UNUSED(module), PyObject *args)
 {
     PyObject *from[LISTS], *pairs[2], *all = NULL;
-    polygons it;
-    Py_buffer of[2] = {0};
-    Py_ssize_t len = -1;
-    int views = 0;
-    if (!PyArg_ParseTuple(args, "OOOOO", from, from + 1, from + 2, pairs, pairs + 1) || !view_polygons(&it, from))
+    Py_buffer polygons[LISTS], of[2];
+    Py_ssize_t len;
+    if (!PyArg_ParseTuple(args, "OOOOO", from, from + 1, from + 2, pairs, pairs + 1) || !view_all(LISTS, from, EIGHT, polygons, NULL))
         return NULL;
-    while (views < 2 && view_items(pairs[views], of + views, 8, &len))
-        views++;
-    const int64_t *some = of[0].buf;
-    bool is_sound = views == 2;
-    for (Py_ssize_t at = 0; is_sound && at < len; at++)
-        is_sound = is_part(&it, some[at]);
-    char *into = is_sound && (all = PyByteArray_FromStringAndSize(NULL, len)) ? PyByteArray_AsString(all) : NULL;
-    for (Py_ssize_t at = 0; all && at < len;) {
-        Py_BEGIN_ALLOW_THREADS
-        at = hold_slice(&it, some, of[1].buf, into, at, len);
-        Py_END_ALLOW_THREADS
-        if (PyErr_CheckSignals() < 0)
-            Py_CLEAR(all);
+    if (view_all(2, pairs, EIGHT, of, &len)) {
+        const int64_t *some = of[0].buf;
+        bool is_sound = true;
+        for (Py_ssize_t at = 0; is_sound && at < len; at++)
+            is_sound = is_part(polygons, some[at]);
+        char *into = is_sound && (all = PyByteArray_FromStringAndSize(NULL, len)) ? PyByteArray_AsString(all) : NULL;
+        for (Py_ssize_t at = 0; all && at < len;) {
+            Py_BEGIN_ALLOW_THREADS
+            at = hold_slice(polygons, some, of[1].buf, into, at, len);
+            Py_END_ALLOW_THREADS
+            if (PyErr_CheckSignals() < 0)
+                Py_CLEAR(all);
+        }
+        release(of, 2);
     }
-    release(of, views);
-    release(it.of, LISTS);
+    release(polygons, LISTS);
     return all;
 }
 
