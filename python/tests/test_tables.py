@@ -30,18 +30,13 @@ def fielded(rows: Any) -> Any:
     return fields
 
 
-class Columns:
+class Columns(dict[str, Any]):
     """A frame that is no pandas': what it iterates over is its columns."""
 
-    def __init__(self, rows: Any) -> None:
-        self._columns = dict(zip(NAMES, numpy.array(rows).T))
-        self.columns = [*self._columns]
+    columns = property(dict.keys)
 
     def __iter__(self) -> Iterator[Any]:
-        return iter(self._columns.values())
-
-    def __getitem__(self, name: str) -> Any:
-        return self._columns[name]
+        return iter(self.values())
 
 
 WAYS: list[Any] = [
@@ -58,7 +53,7 @@ WAYS: list[Any] = [
     pandas.DataFrame(ROWS, columns=NAMES)[NAMES[::-1]].assign(other="x"),
     pandas.DataFrame(ROWS, columns=["ID", "minX", "maxX", "minY", "maxY"], dtype="Int64"),
     fielded(ROWS),
-    Columns(ROWS),
+    Columns(zip(NAMES, numpy.array(ROWS).T)),
     [(*row, 0) if row[0] % 2 else row for row in ROWS],
 ]
 
