@@ -8,16 +8,18 @@ TABLES = "docs/performance.md"
 QUOTES = [  # a page, words with {} for each figure, a table of docs/performance.md, and the row and the column of each figure
     (TABLES, "loads the whole table: {} for a million boxes", "changes", [("rtfilter, a load", "1,000,000")]),
     (TABLES, "it needs no load, but making it takes {}.", "largest", [("SQLite's R*Tree", "load")]),
-    (TABLES, "the table is loaded again, in {} for a million boxes", "changes", [("rtfilter, a load", "1,000,000")]),
+    (TABLES, "Each change needs a new load: {} for a million boxes", "changes", [("rtfilter, a load", "1,000,000")]),
     (TABLES, "moves one box in {}.", "changes", [("SQLite's R*Tree in memory, one `UPDATE`", "1,000,000")]),
     (TABLES, "(`on a ring`) take {},", "tables", [("on a ring: nearest 10, from the middle", "rtfilter")]),
     (
-        TABLES, "A window takes {} instead of {}, the nearest 10 take {} instead of {}.", "tables",
+        TABLES, "A window takes {} instead of {}, and the nearest 10 take {} instead of {}.", "tables",
         [(f"{table}: {query}", "rtfilter") for query in ("window", "nearest 10") for table in ("very different sizes", "uniform")],
     ),
-    (TABLES, "A window takes {} over slabs", "tables", [("slabs: window", "rtfilter")]),
-    (TABLES, "Over crossing boxes a window takes {};", "tables", [("crossing: window", "rtfilter")]),
-    (TABLES, "`count all` check every box: {} instead of {}.", "regions", [("all", "count on"), ("all", "count")]),
+    (
+        TABLES, "A window takes {} over slabs and {} over crossing boxes.", "tables",
+        [("slabs: window", "rtfilter"), ("crossing: window", "rtfilter")],
+    ),
+    (TABLES, "`count all` checks every box: {} instead of {}.", "regions", [("all", "count on"), ("all", "count")]),
     (
         "docs/faq.md", "Boost and GEOS take {} and {} times as long for a window", "library",
         [("find window, about 20 boxes", name) for name in ("Boost.Geometry", "GEOS")],
