@@ -53,7 +53,7 @@ SHARED = [  # files, each with words that have {} for a number, which is the sam
         ("docs/library.md", "what its searches touch of {} n reserved bytes"),
         ("docs/limits.md", "reserved for each thread, session or connection | {} n |"),
     ],
-    [(TABLES, "`Rtfilter.find`; shapely's `STRtree.query`; rtree | {};"), ("docs/python.md", "a window takes about [{} µs]")],
+    [(TABLES, "`Rtfilter.find` | {} |"), ("docs/python.md", "a window takes about [{} µs]")],
     [("docs/limits.md", "or later, and the library {}."), ("docs/library.md", "| C library | glibc {} or later")],
 ]  # fmt: skip
 
