@@ -21,11 +21,14 @@ QUOTES = [  # a page, words with {} for each figure, a table of docs/performance
     ),
     (TABLES, "`count all` checks every box: {} instead of {}.", "regions", [("all", "count on"), ("all", "count")]),
     (
-        "docs/faq.md", "Boost and GEOS take {} and {} times as long for a window", "library",
+        "docs/faq.md", "a window takes {} times as long with Boost and {} times with GEOS", "library",
         [("find window, about 20 boxes", name) for name in ("Boost.Geometry", "GEOS")],
     ),
-    ("docs/faq.md", "window, {} and {} times for the nearest ten", "library", [("nearest 10", it) for it in ("Boost.Geometry", "GEOS")]),
-    ("docs/faq.md", "and {} times for a large count", "library", [("count window, a quarter of the plane", "Boost.Geometry")]),
+    (
+        "docs/faq.md", "The nearest ten take {} times as long with Boost and {} times with GEOS", "library",
+        [("nearest 10", name) for name in ("Boost.Geometry", "GEOS")],
+    ),
+    ("docs/faq.md", "a large count {} times with both", "library", [("count window, a quarter of the plane", "Boost.Geometry")]),
     ("docs/faq.md", "For `covers` of a point Boost takes {} times as long", "library", [("find covers, a point", "Boost.Geometry")]),
     (
         "docs/faq.md", "A million boxes take {} while the program loads a CSV file, {} afterwards", "largest",
