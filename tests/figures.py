@@ -41,7 +41,7 @@ SHARED = [  # files, each with words that have {} for a number, which is the sam
     [("docs/limits.md", "A service has {} connections"), ("docs/service.md", "connections at a time, 1 to 1048576 | {} |")],
     [("docs/limits.md", "one that is silent for {} s."), ("docs/service.md", "a silent connection is closed, 0 for never | {} |")],
     [("docs/limits.md", "times](service.md#connections) {} s."), ("docs/service.md", "may wait for its reader, 0 for ever | {} |")],
-    [("docs/limits.md", "old connections have {} s."), ("docs/service.md", "write replies after SIGTERM | {} |")],
+    [("docs/limits.md", "replaced table end within {} s."), ("docs/service.md", "write replies after SIGTERM | {} |")],
     [
         ("docs/limits.md", "use at most {} GB together (`MemoryMax=`)"), ("docs/service.md", "use at most {} GB of memory together"),
         ("service/rtfilter.service", "MemoryMax={}G"),
