@@ -297,9 +297,8 @@ class Packages(unittest.TestCase):
         defaults = (tree / "etc/default/rtfilter-service").read_text()
         self.assertEqual(re.findall(r"^(\w+)=", defaults, re.MULTILINE), ["TABLE", "OPTIONS"])
 
-
     def test_an_upgrade_restarts_what_runs(self) -> None:
-        """A first installation starts nothing. A purge stops what runs, instances too."""
+        """A downgrade too. A first installation starts nothing. A purge stops what runs, instances too."""
         wants("dpkg", "deb-systemd-invoke")
         if os.geteuid() != 0:
             self.skipTest("root: the scripts of packages run in a folder that stands for the system")
@@ -316,6 +315,7 @@ class Packages(unittest.TestCase):
                 (("--install", self.packages["rtfilter-service"]), False, []),
                 (("--install", newer), True, [f"--quiet --system restart {ALL_UNITS}", f"try-restart {INSTANCES}"]),
                 (("--install", newer), False, [f"try-restart {INSTANCES}"]),
+                (("--install", self.packages["rtfilter-service"]), True, [f"--quiet --system restart {ALL_UNITS}", f"try-restart {INSTANCES}"]),
                 (("--purge", "rtfilter-service"), True, [f"stop {INSTANCES}", f"stop {ALL_UNITS}"]),
             ):
                 (system / "log").unlink(missing_ok=True)
